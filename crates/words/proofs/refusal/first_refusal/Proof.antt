@@ -1,0 +1,52 @@
+use native.Mathlib.Omega.{arith}
+use borrow.Author.Needs.{needs}
+use Rattle.words.proofs.refusal.first_refusal.Statement.{statement}
+use Rattle.words.proofs.refusal.first_refusal.Tie as tie
+use Rattle.words.proofs.refusal.first_refusal.Reads as reads
+use Rattle.words.proofs.refusal.first_refusal.Lts as lts
+use Rattle.words.proofs.choose.pick.Reads as pick-reads
+
+pick-requires : tie.Need-pick-requires
+pick-requires c κs = search needs
+
+pick-requires-2 : tie.Need-pick-requires-2
+pick-requires-2 c κs = search needs
+
+pick-requires-3 : tie.Need-pick-requires-3
+pick-requires-3 c κs = search needs
+
+pick-requires-4 : tie.Need-pick-requires-4
+pick-requires-4 c κs = search needs
+
+pick-requires-5 : tie.Need-pick-requires-5
+pick-requires-5 c κs = search needs
+
+pick-requires-6 : tie.Need-pick-requires-6
+pick-requires-6 c κs = search needs
+
+pick-requires-7 : tie.Need-pick-requires-7
+pick-requires-7 c κs = search needs
+
+pick-requires-8 : tie.Need-pick-requires-8
+pick-requires-8 c κs = search needs
+
+pick-requires-9 : tie.Need-pick-requires-9
+pick-requires-9 c κs = search needs
+
+returns : tie.Need-returns
+returns c = search needs
+
+pub first-refusal-spec : {M : Type 1} → statement M
+first-refusal-spec =
+    tie.close
+    (tie.spec
+    pick-requires
+    pick-requires-2
+    pick-requires-3
+    pick-requires-4
+    pick-requires-5
+    pick-requires-6
+    pick-requires-7
+    pick-requires-8
+    pick-requires-9
+    returns)

@@ -1,0 +1,91 @@
+use borrow.Author.Needs.{needs}
+use native.Mathlib.Omega.{arith}
+use Rattle.words.proofs.writer.put_words.Statement.{statement}
+use Rattle.words.proofs.writer.put_words.Tie as tie
+use Rattle.words.proofs.writer.put_words.Reads as reads
+use Rattle.words.proofs.writer.put_words.Lts as lts
+
+abbrev Inv-loop : tie.InvT-loop
+Inv-loop words bytes₀ i₀ bytes i = ?
+
+abbrev μ-loop : tie.MeasureT-loop
+μ-loop words bytes₀ i₀ bytes i = ?
+
+loop-holds : tie.Need-loop-holds Inv-loop μ-loop
+loop-holds c = search needs
+
+mul-bytes : tie.Need-mul-bytes Inv-loop μ-loop
+mul-bytes c = search needs
+
+array-read-bytes : tie.Need-array-read-bytes Inv-loop μ-loop
+array-read-bytes c = search needs
+
+cast-bytes : tie.Need-cast-bytes Inv-loop μ-loop
+cast-bytes c = search needs
+
+mul-bytes-2 : tie.Need-mul-bytes-2 Inv-loop μ-loop
+mul-bytes-2 c = search needs
+
+add-bytes : tie.Need-add-bytes Inv-loop μ-loop
+add-bytes c = search needs
+
+array-write-bytes : tie.Need-array-write-bytes Inv-loop μ-loop
+array-write-bytes c = search needs
+
+mul-bytes-3 : tie.Need-mul-bytes-3 Inv-loop μ-loop
+mul-bytes-3 c = search needs
+
+array-read-bytes-2 : tie.Need-array-read-bytes-2 Inv-loop μ-loop
+array-read-bytes-2 c = search needs
+
+cast-bytes-2 : tie.Need-cast-bytes-2 Inv-loop μ-loop
+cast-bytes-2 c = search needs
+
+mul-bytes-4 : tie.Need-mul-bytes-4 Inv-loop μ-loop
+mul-bytes-4 c = search needs
+
+add-bytes-2 : tie.Need-add-bytes-2 Inv-loop μ-loop
+add-bytes-2 c = search needs
+
+add-bytes-3 : tie.Need-add-bytes-3 Inv-loop μ-loop
+add-bytes-3 c = search needs
+
+array-write-bytes-2 : tie.Need-array-write-bytes-2 Inv-loop μ-loop
+array-write-bytes-2 c = search needs
+
+add-i : tie.Need-add-i Inv-loop μ-loop
+add-i c = search needs
+
+loop-less : tie.Need-loop-less Inv-loop μ-loop
+loop-less c = search needs
+
+loop-again : tie.Need-loop-again Inv-loop μ-loop
+loop-again c = search needs
+
+returns : tie.Need-returns Inv-loop μ-loop
+returns c = search needs
+
+pub put-words-spec : {M : Type 1} → statement M
+put-words-spec =
+    tie.close
+    (tie.spec
+    Inv-loop
+    μ-loop
+    loop-holds
+    mul-bytes
+    array-read-bytes
+    cast-bytes
+    mul-bytes-2
+    add-bytes
+    array-write-bytes
+    mul-bytes-3
+    array-read-bytes-2
+    cast-bytes-2
+    mul-bytes-4
+    add-bytes-2
+    add-bytes-3
+    array-write-bytes-2
+    add-i
+    loop-less
+    loop-again
+    returns)

@@ -1,0 +1,6 @@
+pub mod Command
+pub mod Refusal
+pub mod Settings
+pub mod Value
+pub mod Layout
+pub mod Writing
