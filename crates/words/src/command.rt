@@ -1,8 +1,8 @@
 // The fields of a command word.
 ghost use mathlib.Core.Path.{_≡_};
 ghost use Rattle.words.specs.Command.{addressOf, transmits, subaddressOf, countField, wordCount, isModeSubaddress};
-
-use crate::choose::{either, pick};
+use crate::choose::either;
+use crate::choose::pick;
 
 pub fn address(command: u16) -> u16
     ensures { λ r. ⌜ r ≡ addressOf command ⌝ }

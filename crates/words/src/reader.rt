@@ -4,9 +4,11 @@ ghost use Prim.Native.Nat.{_+_, _*_, _≤_};
 ghost use lib.ListN.{length};
 ghost use Rattle.words.specs.Value.{zeroWords};
 ghost use Rattle.words.specs.Layout.{wordAt, areZero, fill, wordsIn, valueIn, breaksLayout, readRecord, notRead};
-
-use crate::choose::{both, no};
-use crate::value::{keeps_layout, zero_value, Record};
+use crate::choose::both;
+use crate::choose::no;
+use crate::value::Record;
+use crate::value::keeps_layout;
+use crate::value::zero_value;
 
 // What reading gives: the number, and the value where it is 0.
 pub struct Reading {

@@ -1,7 +1,6 @@
 // The order of the numbers that refuse, written once: every entry point asks `first_refusal`.
 ghost use mathlib.Core.Path.{_≡_};
 ghost use Rattle.words.specs.Refusal.{firstRefusal};
-
 use crate::choose::pick;
 
 // The cases of the table "Numbers that refuse", in its order. An entry point says `false` for those about things that
@@ -31,7 +30,11 @@ pub struct Grounds {
 pub fn first_refusal(g: Grounds) -> u16
     ensures { λ r. ⌜ r ≡ firstRefusal g ⌝ }
 {
-    let late = pick(g.address, 6, pick(g.subaddress, 7, pick(g.stack, 8, pick(g.cell, 9, 0))));
+    let late = pick(
+        g.address,
+        6,
+        pick(g.subaddress, 7, pick(g.stack, 8, pick(g.cell, 9, 0))),
+    );
     let middle = pick(g.settings, 3, pick(g.length, 4, pick(g.layout, 5, late)));
     pick(g.ram, 1, pick(g.reply, 2, middle))
 }

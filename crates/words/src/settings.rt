@@ -1,8 +1,9 @@
 // Settings, the remembered state, and what the settings alone decide.
 ghost use mathlib.Core.Path.{_≡_};
 ghost use Rattle.words.specs.Settings.{stackSizeListed, settingsRefused, isOwn, isBroadcast, isNotOurs, nothingRemembered};
-
-use crate::choose::{both, either, no};
+use crate::choose::both;
+use crate::choose::either;
+use crate::choose::no;
 use crate::command::address;
 
 pub enum Area {
@@ -43,7 +44,10 @@ pub fn nothing_remembered() -> Remembered
 fn stack_size_listed(size: u16) -> bool
     ensures { λ r. ⌜ r ≡ stackSizeListed size ⌝ }
 {
-    either(either(size == 256, size == 512), either(size == 1024, size == 2048))
+    either(
+        either(size == 256, size == 512),
+        either(size == 1024, size == 2048),
+    )
 }
 
 pub fn settings_refused(s: Settings) -> bool

@@ -1,8 +1,8 @@
 // The record value, its flags, and the rules that a value keeps.
 ghost use mathlib.Core.Path.{_≡_};
 ghost use Rattle.words.specs.Value.{zeroValue, keepsLayout, onBusB, hasWrongSync, hasInvalidWord, lastsZero};
-
-use crate::choose::{both, either};
+use crate::choose::both;
+use crate::choose::either;
 
 // A message record as a value. It can hold what breaks the layout, since the writer refuses such a value.
 pub struct Record {
@@ -60,5 +60,8 @@ pub fn keeps_layout(v: Record) -> bool
     ensures { λ r. ⌜ r ≡ keepsLayout v ⌝ }
 {
     let words = v.words;
-    both(both(v.flags <= 7, v.count <= 33), lasts_zero(words, v.count))
+    both(
+        both(v.flags <= 7, v.count <= 33),
+        lasts_zero(words, v.count),
+    )
 }

@@ -1,8 +1,8 @@
 // The record writer: a value to 80 bytes, or refusal 5.
 ghost use mathlib.Core.Path.{_≡_};
 ghost use Rattle.words.specs.Writing.{headerOf, putWords, bytesOf, writeRecord};
-
-use crate::value::{keeps_layout, Record};
+use crate::value::Record;
+use crate::value::keeps_layout;
 
 // What writing gives: the number, and the bytes where it is 0.
 pub struct Written {

@@ -1,19 +1,22 @@
-use borrow.Author.Needs.{needs}
+-- `are_zero` meets its contract. The loop's invariant: `ok` tells whether the first `i` bytes from `from` on are zero.
+use Prim.Native.Nat.{_≤_, _-_}
 use native.Mathlib.Omega.{arith}
+use mathlib.Core.Path.{_≡_, refl}
+use borrow.Author.Needs.{needs}
+use Rattle.words.specs.Layout.{areZero}
+use Rattle.words.proofs.Turns.{are-zero-more}
 use Rattle.words.proofs.reader.are_zero.Statement.{statement}
 use Rattle.words.proofs.reader.are_zero.Tie as tie
-use Rattle.words.proofs.reader.are_zero.Reads as reads
-use Rattle.words.proofs.reader.are_zero.Lts as lts
-use Rattle.words.proofs.choose.both.Reads as both-reads
 
 abbrev Inv-loop : tie.InvT-loop
-Inv-loop s from n ok₀ i₀ ok i = ?
+Inv-loop s from n ok₀ i₀ ok i = (i ≤ n) × (ok ≡ areZero s from i)
 
 abbrev μ-loop : tie.MeasureT-loop
-μ-loop s from n ok₀ i₀ ok i = ?
+μ-loop s from n ok₀ i₀ ok i = n - i
 
 loop-holds : tie.Need-loop-holds Inv-loop μ-loop
-loop-holds c = search needs
+unfolding areZero
+loop-holds c = (omega arith, refl)
 
 add-both : tie.Need-add-both Inv-loop μ-loop
 add-both c = search needs
@@ -31,10 +34,12 @@ loop-less : tie.Need-loop-less Inv-loop μ-loop
 loop-less c = search needs
 
 loop-again : tie.Need-loop-again Inv-loop μ-loop
-loop-again c = search needs
+loop-again c = (omega arith, rw are-zero-more (cc))
 
 returns : tie.Need-returns Inv-loop μ-loop
-returns c = search needs
+returns c =
+    let e : c .before .loop .i ≡ c .before .before .before .args .n = omega arith in
+    rw e at (c .before .loop .inv .1)
 
 pub are-zero-spec : {M : Type 1} → statement M
 are-zero-spec =

@@ -1,19 +1,23 @@
+-- `words_in` meets its contract. The loop's invariant: the first `i` words are filled in.
+use Prim.Native.Nat.{_≤_, _-_, _+_, _*_}
+use mathlib.Core.Path.{_≡_, refl}
+use lib.ListN.{replicate}
+use Rattle.words.specs.Layout.{wordAt, fill, wordsIn}
+use Rattle.words.proofs.Turns.{fill-more}
 use borrow.Author.Needs.{needs}
 use native.Mathlib.Omega.{arith}
 use Rattle.words.proofs.reader.words_in.Statement.{statement}
 use Rattle.words.proofs.reader.words_in.Tie as tie
-use Rattle.words.proofs.reader.words_in.Reads as reads
-use Rattle.words.proofs.reader.words_in.Lts as lts
-use Rattle.words.proofs.reader.word_at.Reads as word-at-reads
 
 abbrev Inv-loop : tie.InvT-loop
-Inv-loop s words₀ i₀ words i = ?
+Inv-loop s words₀ i₀ words i = (i ≤ 32) × (words ≡ fill (λ k. wordAt s (16 + 2 * k)) (replicate 32 0) i)
 
 abbrev μ-loop : tie.MeasureT-loop
-μ-loop s words₀ i₀ words i = ?
+μ-loop s words₀ i₀ words i = 32 - i
 
 loop-holds : tie.Need-loop-holds Inv-loop μ-loop
-loop-holds c = search needs
+unfolding fill
+loop-holds c = (omega arith, refl)
 
 mul-word-at : tie.Need-mul-word-at Inv-loop μ-loop
 mul-word-at c = search needs
@@ -37,10 +41,12 @@ loop-less : tie.Need-loop-less Inv-loop μ-loop
 loop-less c = search needs
 
 loop-again : tie.Need-loop-again Inv-loop μ-loop
-loop-again c = search needs
+loop-again c = (omega arith, rw fill-more (cc))
 
 returns : tie.Need-returns Inv-loop μ-loop
-returns c = search needs
+unfolding wordsIn
+returns c =
+    let e : c .before .loop .i ≡ 32 = omega arith in rw e at (c .before .loop .inv .1)
 
 pub words-in-spec : {M : Type 1} → statement M
 words-in-spec =

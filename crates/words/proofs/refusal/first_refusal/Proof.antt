@@ -1,10 +1,8 @@
-use native.Mathlib.Omega.{arith}
+-- `first_refusal` meets its contract: nine choices, as the table lists them.
 use borrow.Author.Needs.{needs}
+use Rattle.words.specs.Refusal.{firstOf, inOrder, firstRefusal}
 use Rattle.words.proofs.refusal.first_refusal.Statement.{statement}
 use Rattle.words.proofs.refusal.first_refusal.Tie as tie
-use Rattle.words.proofs.refusal.first_refusal.Reads as reads
-use Rattle.words.proofs.refusal.first_refusal.Lts as lts
-use Rattle.words.proofs.choose.pick.Reads as pick-reads
 
 pick-requires : tie.Need-pick-requires
 pick-requires c κs = search needs
@@ -34,7 +32,8 @@ pick-requires-9 : tie.Need-pick-requires-9
 pick-requires-9 c κs = search needs
 
 returns : tie.Need-returns
-returns c = search needs
+unfolding firstRefusal inOrder firstOf
+returns c = cc
 
 pub first-refusal-spec : {M : Type 1} → statement M
 first-refusal-spec =

@@ -1,16 +1,15 @@
-use native.Mathlib.Omega.{arith}
+-- `is_broadcast` meets its contract.
 use borrow.Author.Needs.{needs}
+use Rattle.words.specs.Settings.{isBroadcast}
 use Rattle.words.proofs.settings.is_broadcast.Statement.{statement}
 use Rattle.words.proofs.settings.is_broadcast.Tie as tie
-use Rattle.words.proofs.settings.is_broadcast.Reads as reads
-use Rattle.words.proofs.settings.is_broadcast.Lts as lts
-use Rattle.words.proofs.command.address.Reads as address-reads
 
 address-requires : tie.Need-address-requires
 address-requires c κs = search needs
 
 returns : tie.Need-returns
-returns c = search needs
+unfolding isBroadcast
+returns c = cc
 
 pub is-broadcast-spec : {M : Type 1} → statement M
 is-broadcast-spec = tie.close (tie.spec address-requires returns)

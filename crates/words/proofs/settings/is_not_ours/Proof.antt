@@ -1,13 +1,8 @@
-use native.Mathlib.Omega.{arith}
+-- `is_not_ours` meets its contract.
 use borrow.Author.Needs.{needs}
+use Rattle.words.specs.Settings.{isNotOurs}
 use Rattle.words.proofs.settings.is_not_ours.Statement.{statement}
 use Rattle.words.proofs.settings.is_not_ours.Tie as tie
-use Rattle.words.proofs.settings.is_not_ours.Reads as reads
-use Rattle.words.proofs.settings.is_not_ours.Lts as lts
-use Rattle.words.proofs.choose.both.Reads as both-reads
-use Rattle.words.proofs.choose.no.Reads as no-reads
-use Rattle.words.proofs.settings.is_broadcast.Reads as is-broadcast-reads
-use Rattle.words.proofs.settings.is_own.Reads as is-own-reads
 
 is-own-requires : tie.Need-is-own-requires
 is-own-requires c κs = search needs
@@ -25,7 +20,8 @@ both-requires : tie.Need-both-requires
 both-requires c κs = search needs
 
 returns : tie.Need-returns
-returns c = search needs
+unfolding isNotOurs
+returns c = cc
 
 pub is-not-ours-spec : {M : Type 1} → statement M
 is-not-ours-spec =

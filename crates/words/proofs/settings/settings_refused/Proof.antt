@@ -1,12 +1,8 @@
-use native.Mathlib.Omega.{arith}
+-- `settings_refused` meets its contract.
 use borrow.Author.Needs.{needs}
+use Rattle.words.specs.Settings.{settingsRefused}
 use Rattle.words.proofs.settings.settings_refused.Statement.{statement}
 use Rattle.words.proofs.settings.settings_refused.Tie as tie
-use Rattle.words.proofs.settings.settings_refused.Reads as reads
-use Rattle.words.proofs.settings.settings_refused.Lts as lts
-use Rattle.words.proofs.choose.either.Reads as either-reads
-use Rattle.words.proofs.choose.no.Reads as no-reads
-use Rattle.words.proofs.settings.stack_size_listed.Reads as stack-size-listed-reads
 
 stack-size-listed-requires : tie.Need-stack-size-listed-requires
 stack-size-listed-requires c κs = search needs
@@ -18,7 +14,8 @@ either-requires : tie.Need-either-requires
 either-requires c κs = search needs
 
 returns : tie.Need-returns
-returns c = search needs
+unfolding settingsRefused
+returns c = cc
 
 pub settings-refused-spec : {M : Type 1} → statement M
 settings-refused-spec =

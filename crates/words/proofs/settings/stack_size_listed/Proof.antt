@@ -1,10 +1,8 @@
-use native.Mathlib.Omega.{arith}
+-- `stack_size_listed` meets its contract: the same four tests.
 use borrow.Author.Needs.{needs}
+use Rattle.words.specs.Settings.{stackSizeListed}
 use Rattle.words.proofs.settings.stack_size_listed.Statement.{statement}
 use Rattle.words.proofs.settings.stack_size_listed.Tie as tie
-use Rattle.words.proofs.settings.stack_size_listed.Reads as reads
-use Rattle.words.proofs.settings.stack_size_listed.Lts as lts
-use Rattle.words.proofs.choose.either.Reads as either-reads
 
 either-requires : tie.Need-either-requires
 either-requires c κs = search needs
@@ -16,7 +14,8 @@ either-requires-3 : tie.Need-either-requires-3
 either-requires-3 c κs = search needs
 
 returns : tie.Need-returns
-returns c = search needs
+unfolding stackSizeListed
+returns c = cc
 
 pub stack-size-listed-spec : {M : Type 1} → statement M
 stack-size-listed-spec =

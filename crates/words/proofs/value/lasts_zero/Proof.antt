@@ -1,20 +1,22 @@
+-- `lasts_zero` meets its contract. The loop's invariant: `ok` tells whether those of the first `i` words that come after `count` are zero.
+use Prim.Native.Nat.{_≤_, _-_, _+_, _*_}
+use mathlib.Core.Path.{_≡_, refl}
+use Rattle.words.specs.Value.{lastsZero}
+use Rattle.words.proofs.Turns.{lasts-zero-more}
 use borrow.Author.Needs.{needs}
 use native.Mathlib.Omega.{arith}
 use Rattle.words.proofs.value.lasts_zero.Statement.{statement}
 use Rattle.words.proofs.value.lasts_zero.Tie as tie
-use Rattle.words.proofs.value.lasts_zero.Reads as reads
-use Rattle.words.proofs.value.lasts_zero.Lts as lts
-use Rattle.words.proofs.choose.both.Reads as both-reads
-use Rattle.words.proofs.choose.either.Reads as either-reads
 
 abbrev Inv-loop : tie.InvT-loop
-Inv-loop count words ok₀ i₀ ok i = ?
+Inv-loop count words ok₀ i₀ ok i = (i ≤ 32) × (ok ≡ lastsZero words count i)
 
 abbrev μ-loop : tie.MeasureT-loop
-μ-loop count words ok₀ i₀ ok i = ?
+μ-loop count words ok₀ i₀ ok i = 32 - i
 
 loop-holds : tie.Need-loop-holds Inv-loop μ-loop
-loop-holds c = search needs
+unfolding lastsZero
+loop-holds c = (omega arith, refl)
 
 mul-either : tie.Need-mul-either Inv-loop μ-loop
 mul-either c = search needs
@@ -35,10 +37,11 @@ loop-less : tie.Need-loop-less Inv-loop μ-loop
 loop-less c = search needs
 
 loop-again : tie.Need-loop-again Inv-loop μ-loop
-loop-again c = search needs
+loop-again c = (omega arith, rw lasts-zero-more (cc))
 
 returns : tie.Need-returns Inv-loop μ-loop
-returns c = search needs
+returns c =
+    let e : c .before .loop .i ≡ 32 = omega arith in rw e at (c .before .loop .inv .1)
 
 pub lasts-zero-spec : {M : Type 1} → statement M
 lasts-zero-spec =

@@ -1,12 +1,11 @@
-use borrow.Author.Needs.{needs}
-use native.Mathlib.Omega.{arith}
+-- `zero_value` meets its contract.
+use Rattle.words.specs.Value.{zeroValue}
 use Rattle.words.proofs.value.zero_value.Statement.{statement}
 use Rattle.words.proofs.value.zero_value.Tie as tie
-use Rattle.words.proofs.value.zero_value.Reads as reads
-use Rattle.words.proofs.value.zero_value.Lts as lts
 
 returns : tie.Need-returns
-returns c = search needs
+unfolding zeroValue
+returns c = cc
 
 pub zero-value-spec : {M : Type 1} → statement M
 zero-value-spec = tie.close (tie.spec returns)

@@ -1,9 +1,8 @@
-use native.Mathlib.Omega.{arith}
+-- `header_of` meets its contract: the same six stores into eighty zero bytes.
 use borrow.Author.Needs.{needs}
+use Rattle.words.specs.Writing.{headerOf}
 use Rattle.words.proofs.writer.header_of.Statement.{statement}
 use Rattle.words.proofs.writer.header_of.Tie as tie
-use Rattle.words.proofs.writer.header_of.Reads as reads
-use Rattle.words.proofs.writer.header_of.Lts as lts
 
 cast-bytes : tie.Need-cast-bytes
 cast-bytes c = search needs
@@ -36,7 +35,8 @@ array-write-bytes-6 : tie.Need-array-write-bytes-6
 array-write-bytes-6 c = search needs
 
 returns : tie.Need-returns
-returns c = search needs
+unfolding headerOf
+returns c = cc
 
 pub header-of-spec : {M : Type 1} → statement M
 header-of-spec =

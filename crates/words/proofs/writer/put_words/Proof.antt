@@ -1,18 +1,22 @@
+-- `put_words` meets its contract. The loop's invariant: the first `i` words stand in the bytes.
+use Prim.Native.Nat.{_≤_, _-_, _+_, _*_}
+use mathlib.Core.Path.{_≡_, refl}
+use Rattle.words.specs.Writing.{putWords}
+use Rattle.words.proofs.Turns.{put-words-more}
 use borrow.Author.Needs.{needs}
 use native.Mathlib.Omega.{arith}
 use Rattle.words.proofs.writer.put_words.Statement.{statement}
 use Rattle.words.proofs.writer.put_words.Tie as tie
-use Rattle.words.proofs.writer.put_words.Reads as reads
-use Rattle.words.proofs.writer.put_words.Lts as lts
 
 abbrev Inv-loop : tie.InvT-loop
-Inv-loop words bytes₀ i₀ bytes i = ?
+Inv-loop words bytes₀ i₀ bytes i = (i ≤ 32) × (bytes ≡ putWords bytes₀ words i)
 
 abbrev μ-loop : tie.MeasureT-loop
-μ-loop words bytes₀ i₀ bytes i = ?
+μ-loop words bytes₀ i₀ bytes i = 32 - i
 
 loop-holds : tie.Need-loop-holds Inv-loop μ-loop
-loop-holds c = search needs
+unfolding putWords
+loop-holds c = (omega arith, refl)
 
 mul-bytes : tie.Need-mul-bytes Inv-loop μ-loop
 mul-bytes c = search needs
@@ -60,10 +64,11 @@ loop-less : tie.Need-loop-less Inv-loop μ-loop
 loop-less c = search needs
 
 loop-again : tie.Need-loop-again Inv-loop μ-loop
-loop-again c = search needs
+loop-again c = (omega arith, rw (put-words-more, ← c .before .loop .inv .1))
 
 returns : tie.Need-returns Inv-loop μ-loop
-returns c = search needs
+returns c =
+    let e : c .before .loop .i ≡ 32 = omega arith in rw e at (c .before .loop .inv .1)
 
 pub put-words-spec : {M : Type 1} → statement M
 put-words-spec =
