@@ -1,0 +1,76 @@
+-- A cell, its scheme and window, and whether it is sound (document 01, "Cells and windows").
+use Prim.Native.Nat.{ℕ, _+_, _*_, _/_, _%_, _^_}
+use mathlib.Core.Bool.{Bool, true, false, not, cond, _&&_, _||_}
+use mathlib.Core.List.{List}
+use lib.ListN.{getD}
+use lib.Dec.{ltb, eqb}
+use Rattle.words.specs.declared.settings.Area.{Area}
+use Rattle.cells.specs.declared.kind.Kind.{Kind}
+use Rattle.cells.specs.declared.kind.Kind.the-variants.{Receive, Transmit, Broadcast}
+use Rattle.cells.specs.declared.cell.Scheme.{Scheme}
+use Rattle.cells.specs.declared.cell.Scheme.the-variants.{Single, Double, Circular}
+use Rattle.cells.specs.declared.cell.Cell.{Cell}
+use Rattle.cells.specs.declared.window.Window.{Window}
+use Rattle.cells.specs.Map.{lookupPlace, controlPlace}
+use Rattle.cells.specs.Kind.{cellNumber}
+use Rattle.cells.specs.Window.{runFrom, aligned, windowsMeet, meetsFixed, fitsBelow}
+
+-- "transmit 14 end-of-message interrupt, 13 circular interrupt, 12-10 size; receive 9, 8, 7-5; broadcast 4, 3, 2-0":
+-- the five bits of a kind, brought down to bits 4, 3, 2-0
+unfoldable pub controlPart : ℕ → Kind → ℕ
+controlPart control Receive = control / 32 % 32
+controlPart control Transmit = control / 1024 % 32
+controlPart control Broadcast = control % 32
+
+-- "circular of 64·2^m words"
+abbrev pub sizeOf : ℕ → ℕ
+sizeOf m = 64 * 2 ^ m
+
+-- "bit 15 double buffer for receive and broadcast"
+abbrev pub doublesKind : Kind → Bool
+doublesKind Receive = true
+doublesKind Transmit = false
+doublesKind Broadcast = true
+
+-- "Size field 0, no double: single." "Size field 0, bit 15 set, not transmit: double." "Size field m from 1 to 7 (bit 15
+-- ignored): circular"
+unfoldable pub pickScheme : ℕ → Bool → Scheme
+pickScheme m double = cond (eqb m 0) (cond double Double Single) (Circular (sizeOf m))
+
+unfoldable pub schemeOf : ℕ → Kind → Scheme
+schemeOf control kind = pickScheme (controlPart control kind % 8) (eqb (control / 32768) 1 && doublesKind kind)
+
+-- the cell of a kind and a subaddress, as RAM describes it
+unfoldable pub cellAt : List ℕ → Area → Kind → ℕ → Cell
+cellAt ram area kind sub =
+    record {
+      kind = kind;
+      subaddress = sub;
+      pointer = getD ram (lookupPlace area (cellNumber kind sub)) 0;
+      scheme = schemeOf (getD ram (controlPlace area sub) 0) kind;
+      «circular_interrupt» = eqb (controlPart (getD ram (controlPlace area sub) 0) kind / 8 % 2) 1;
+      «end_interrupt» = eqb (controlPart (getD ram (controlPlace area sub) 0) kind / 16 % 2) 1
+    }
+
+-- single: "the 32 words from the pointer"; double: "the 64 words aligned to 64 around it"; circular: "aligned to that size,
+-- around the pointer"
+unfoldable pub windowOf : Scheme → ℕ → Window
+windowOf Single pointer = runFrom pointer 32
+windowOf Double pointer = aligned pointer 64
+windowOf (Circular size) pointer = aligned pointer size
+
+-- "a double pointer is a multiple of 32"
+unfoldable pub doubleFits : Scheme → ℕ → Bool
+doubleFits Single pointer = true
+doubleFits Double pointer = eqb (pointer % 32) 0
+doubleFits (Circular size) pointer = true
+
+abbrev pub cellWindow : Cell → Window
+cellWindow c = windowOf (c .scheme) (c .pointer)
+
+-- "A cell is sound if its pointer and window lie in 0000-0FFF, a double pointer is a multiple of 32, and the window meets
+-- neither a fixed area nor the active stack."
+unfoldable pub soundCell : ℕ → Window → Cell → Bool
+soundCell length stack c =
+    ((ltb (c .pointer) length && fitsBelow (cellWindow c) length) && doubleFits (c .scheme) (c .pointer))
+    && not (meetsFixed (cellWindow c) || windowsMeet (cellWindow c) stack)

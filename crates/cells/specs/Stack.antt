@@ -1,0 +1,24 @@
+-- The active stack and whether it is sound.
+use Prim.Native.Nat.{ℕ, _+_, _%_}
+use mathlib.Core.Bool.{Bool, not, _&&_}
+use mathlib.Core.List.{List}
+use lib.ListN.{length, getD}
+use lib.Dec.{leb, eqb}
+use Rattle.words.specs.declared.settings.Settings.{Settings}
+use Rattle.cells.specs.declared.window.Window.{Window}
+use Rattle.cells.specs.Map.{stackPointerPlace}
+use Rattle.cells.specs.Window.{aligned, meetsFixed, fitsBelow}
+
+unfoldable pub stackPointer : List ℕ → Settings → ℕ
+stackPointer ram s = getD ram (stackPointerPlace (s .area)) 0
+
+-- "the block aligned to the stack size around it"
+unfoldable pub stackWindow : List ℕ → Settings → Window
+stackWindow ram s = aligned (stackPointer ram s) (s .«stack_size»)
+
+-- "The stack is sound if its pointer is a multiple of 4, at most 0FFC, and the block aligned to the stack size around it
+-- lies in RAM and meets no fixed area." 0FFC is four below the RAM's length.
+unfoldable pub stackSound : List ℕ → Settings → Bool
+stackSound ram s =
+    (eqb (stackPointer ram s % 4) 0 && leb (stackPointer ram s + 4) (length ram))
+    && (fitsBelow (stackWindow ram s) (length ram) && not (meetsFixed (stackWindow ram s)))

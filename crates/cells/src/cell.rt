@@ -1,0 +1,129 @@
+// A cell's description, read from its lookup word and its control word; its window; whether it is sound.
+ghost use mathlib.Core.Path.{_≡_};
+ghost use mathlib.Core.Bool.{cond, not};
+ghost use Prim.Native.Nat.{_<_};
+ghost use lib.ListN.{length};
+ghost use Rattle.cells.specs.Cell.{controlPart, sizeOf, doublesKind, pickScheme, schemeOf, cellAt, windowOf, doubleFits, soundCell};
+
+use crate::kind::{cell_number, Kind};
+use crate::map::{control_place, lookup_table};
+use crate::ram::word_at;
+use crate::window::{aligned_around, fits_below, meets_fixed, run_from, windows_meet, Window};
+use words::choose::{both, either, no};
+use words::settings::Area;
+
+pub enum Scheme {
+    Single,
+    Double,
+    // circular with a size
+    Circular(u16),
+}
+
+pub struct Cell {
+    pub kind: Kind,
+    pub subaddress: u16,
+    pub pointer: u16,
+    pub scheme: Scheme,
+    // the circular interrupt bit
+    pub circular_interrupt: bool,
+    // the end-of-message interrupt bit
+    pub end_interrupt: bool,
+}
+
+// The five bits of a control word that belong to a kind, lowest first: size, circular interrupt, end-of-message interrupt.
+fn control_part(control: u16, kind: Kind) -> u16
+    ensures { λ r. ⌜ r ≡ controlPart control kind ⌝ }
+{
+    match kind {
+        Kind::Receive => control / 32 % 32,
+        Kind::Transmit => control / 1024 % 32,
+        Kind::Broadcast => control % 32,
+    }
+}
+
+fn size_of(m: u16) -> u16
+    requires { ⌜ m < 8 ⌝ }
+    ensures { λ r. ⌜ r ≡ sizeOf m ⌝ }
+{
+    64 << m
+}
+
+fn doubles_kind(kind: Kind) -> bool
+    ensures { λ r. ⌜ r ≡ doublesKind kind ⌝ }
+{
+    match kind {
+        Kind::Receive => true,
+        Kind::Transmit => false,
+        Kind::Broadcast => true,
+    }
+}
+
+fn pick_scheme(m: u16, double: bool) -> Scheme
+    requires { ⌜ m < 8 ⌝ }
+    ensures { λ r. ⌜ r ≡ pickScheme m double ⌝ }
+{
+    if m == 0 {
+        if double {
+            return Scheme::Double;
+        }
+        return Scheme::Single;
+    }
+    Scheme::Circular(size_of(m))
+}
+
+fn scheme_of(control: u16, kind: Kind) -> Scheme
+    ensures { λ r. ⌜ r ≡ schemeOf control kind ⌝ }
+{
+    let part = control_part(control, kind);
+    pick_scheme(part % 8, both(control / 32768 == 1, doubles_kind(kind)))
+}
+
+// The cell of this kind and subaddress, as RAM describes it.
+pub fn cell_at(ram: &[u16], area: Area, kind: Kind, subaddress: u16) -> Cell
+    ensures { λ r. ⌜ r ≡ cellAt (now (ram .entry)) area kind subaddress ⌝ }
+{
+    let control = word_at(ram, control_place(area, subaddress));
+    let part = control_part(control, kind);
+    let pointer = word_at(ram, lookup_table(area) + cell_number(kind, subaddress));
+    let scheme = scheme_of(control, kind);
+    Cell {
+        kind,
+        subaddress,
+        pointer,
+        scheme,
+        circular_interrupt: part / 8 % 2 == 1,
+        end_interrupt: part / 16 % 2 == 1,
+    }
+}
+
+// The window of a cell.
+pub fn window_of(scheme: Scheme, pointer: u16) -> Window
+    ensures { λ r. ⌜ r ≡ windowOf scheme pointer ⌝ }
+{
+    match scheme {
+        Scheme::Single => run_from(pointer, 32),
+        Scheme::Double => aligned_around(pointer, 64),
+        Scheme::Circular(size) => aligned_around(pointer, size),
+    }
+}
+
+// A double pointer is a multiple of 32.
+fn double_fits(scheme: Scheme, pointer: u16) -> bool
+    ensures { λ r. ⌜ r ≡ doubleFits scheme pointer ⌝ }
+{
+    match scheme {
+        Scheme::Single => true,
+        Scheme::Double => pointer % 32 == 0,
+        Scheme::Circular(_) => true,
+    }
+}
+
+pub fn sound_cell(length: usize, stack: Window, c: Cell) -> bool
+    ensures { λ r. ⌜ r ≡ soundCell length stack c ⌝ }
+{
+    let scheme = c.scheme;
+    let w = window_of(scheme, c.pointer);
+    let inside = both((c.pointer as usize) < length, fits_below(w, length));
+    let apart = no(either(meets_fixed(w), windows_meet(w, stack)));
+    both(both(inside, double_fits(scheme, c.pointer)), apart)
+}

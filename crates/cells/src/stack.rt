@@ -1,0 +1,34 @@
+// The active stack: its pointer, its block, whether it is sound.
+ghost use mathlib.Core.Path.{_≡_};
+ghost use lib.ListN.{length};
+ghost use Rattle.cells.specs.Stack.{stackPointer, stackWindow, stackSound};
+
+use crate::map::stack_pointer_place;
+use crate::ram::word_at;
+use crate::window::{aligned_around, fits_below, meets_fixed, Window};
+use words::choose::{both, no};
+use words::settings::Settings;
+
+pub fn stack_pointer(ram: &[u16], s: Settings) -> u16
+    ensures { λ r. ⌜ r ≡ stackPointer (now (ram .entry)) s ⌝ }
+{
+    let area = s.area;
+    word_at(ram, stack_pointer_place(area))
+}
+
+// The block aligned to the stack size around the stack pointer.
+pub fn stack_window(ram: &[u16], s: Settings) -> Window
+    ensures { λ r. ⌜ r ≡ stackWindow (now (ram .entry)) s ⌝ }
+{
+    aligned_around(stack_pointer(ram, s), s.stack_size)
+}
+
+pub fn stack_sound(ram: &[u16], s: Settings) -> bool
+    ensures { λ r. ⌜ r ≡ stackSound (now (ram .entry)) s ⌝ }
+{
+    let pointer = stack_pointer(ram, s);
+    let w = stack_window(ram, s);
+    let end = ram.len();
+    let placed = both(pointer % 4 == 0, (pointer as usize) + 4 <= end);
+    both(placed, both(fits_below(w, end), no(meets_fixed(w))))
+}
