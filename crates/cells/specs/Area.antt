@@ -54,7 +54,7 @@ areaGrounds ram s =
       address = false;
       subaddress = false;
       stack = not (stackSound ram s);
-      cell = not (eqb (lowestUnsound ram s) 0)
+      cell = not (eqb (lowestUnsound ram s) 0);
     }
 
 unfoldable pub areaRefusal : List ℕ → Settings → ℕ

@@ -49,7 +49,7 @@ cellAt ram area kind sub =
       pointer = getD ram (lookupPlace area (cellNumber kind sub)) 0;
       scheme = schemeOf (getD ram (controlPlace area sub) 0) kind;
       «circular_interrupt» = eqb (controlPart (getD ram (controlPlace area sub) 0) kind / 8 % 2) 1;
-      «end_interrupt» = eqb (controlPart (getD ram (controlPlace area sub) 0) kind / 16 % 2) 1
+      «end_interrupt» = eqb (controlPart (getD ram (controlPlace area sub) 0) kind / 16 % 2) 1;
     }
 
 -- single: "the 32 words from the pointer"; double: "the 64 words aligned to 64 around it"; circular: "aligned to that size,

@@ -2,15 +2,23 @@
 ghost use mathlib.Core.Path.{_≡_};
 ghost use lib.ListN.{length};
 ghost use Rattle.cells.specs.Area.{isRead, cellNumbered, isUnsound, lowest, lowestUnsound, checkArea, orElse};
-
-use crate::cell::{cell_at, sound_cell, Cell};
-use crate::kind::{kind_numbered, Kind};
+use crate::cell::Cell;
+use crate::cell::cell_at;
+use crate::cell::sound_cell;
+use crate::kind::Kind;
+use crate::kind::kind_numbered;
 use crate::map::ram_refused;
-use crate::stack::{stack_sound, stack_window};
+use crate::stack::stack_sound;
+use crate::stack::stack_window;
 use crate::window::Window;
-use words::choose::{both, either, no, pick};
-use words::refusal::{first_refusal, Grounds};
-use words::settings::{settings_refused, Settings};
+use words::choose::both;
+use words::choose::either;
+use words::choose::no;
+use words::choose::pick;
+use words::refusal::Grounds;
+use words::refusal::first_refusal;
+use words::settings::Settings;
+use words::settings::settings_refused;
 
 // The number, and with 9 the lowest unsound cell; the cell is 0 with every other number.
 pub struct Checked {
@@ -23,7 +31,10 @@ pub fn is_read(s: Settings, number: u16) -> bool
     ensures { λ r. ⌜ r ≡ isRead s number ⌝ }
 {
     let sub = number % 32;
-    both(both(1 <= sub, sub <= 30), either(number < 64, both(s.separate_broadcast, number < 96)))
+    both(
+        both(1 <= sub, sub <= 30),
+        either(number < 64, both(s.separate_broadcast, number < 96)),
+    )
 }
 
 // The cell with this number.

@@ -4,12 +4,20 @@ ghost use mathlib.Core.Bool.{cond, not};
 ghost use Prim.Native.Nat.{_<_};
 ghost use lib.ListN.{length};
 ghost use Rattle.cells.specs.Cell.{controlPart, sizeOf, doublesKind, pickScheme, schemeOf, cellAt, windowOf, doubleFits, soundCell};
-
-use crate::kind::{cell_number, Kind};
-use crate::map::{control_place, lookup_table};
+use crate::kind::Kind;
+use crate::kind::cell_number;
+use crate::map::control_place;
+use crate::map::lookup_table;
 use crate::ram::word_at;
-use crate::window::{aligned_around, fits_below, meets_fixed, run_from, windows_meet, Window};
-use words::choose::{both, either, no};
+use crate::window::Window;
+use crate::window::aligned_around;
+use crate::window::fits_below;
+use crate::window::meets_fixed;
+use crate::window::run_from;
+use crate::window::windows_meet;
+use words::choose::both;
+use words::choose::either;
+use words::choose::no;
 use words::settings::Area;
 
 pub enum Scheme {

@@ -2,10 +2,10 @@
 ghost use mathlib.Core.Path.{_≡_};
 ghost use mathlib.Core.Bool.{cond};
 ghost use Rattle.cells.specs.Kind.{kindNumber, cellNumber, kindOf, kindNumbered};
-
 use words::choose::both;
 use words::command;
-use words::settings::{is_broadcast, Settings};
+use words::settings::Settings;
+use words::settings::is_broadcast;
 
 pub enum Kind {
     Receive,
@@ -41,12 +41,20 @@ pub fn kind_of(s: Settings, command: u16) -> Kind
     ensures { λ r. ⌜ r ≡ kindOf s command ⌝ }
 {
     let separate = both(is_broadcast(s, command), s.separate_broadcast);
-    pick_kind(command::transmit(command), Kind::Transmit, pick_kind(separate, Kind::Broadcast, Kind::Receive))
+    pick_kind(
+        command::transmit(command),
+        Kind::Transmit,
+        pick_kind(separate, Kind::Broadcast, Kind::Receive),
+    )
 }
 
 // The kind of the cell with this number.
 pub fn kind_numbered(number: u16) -> Kind
     ensures { λ r. ⌜ r ≡ kindNumbered number ⌝ }
 {
-    pick_kind(number < 32, Kind::Receive, pick_kind(number < 64, Kind::Transmit, Kind::Broadcast))
+    pick_kind(
+        number < 32,
+        Kind::Receive,
+        pick_kind(number < 64, Kind::Transmit, Kind::Broadcast),
+    )
 }

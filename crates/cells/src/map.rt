@@ -1,9 +1,8 @@
 // The memory map: where the terminal's own words stand in RAM.
 ghost use mathlib.Core.Path.{_≡_};
-ghost use Prim.Native.Nat.{_<_};
+ghost use Prim.Native.Nat.{_<_, _≤_};
 ghost use lib.ListN.{getD};
 ghost use Rattle.cells.specs.Map.{ramRefused, stackPointerPlace, lookupTable, controlPlace, busyPlace, illegalPlace, bitOf, bitSet, isBusyAt, isIllegalAt};
-
 use crate::ram::word_at;
 use words::command;
 use words::settings::Area;
@@ -33,7 +32,7 @@ pub fn lookup_table(area: Area) -> usize
 }
 
 fn one_if(b: bool) -> usize
-    ensures { λ r. ⌜ r ≡ bitOf b ⌝ }
+    ensures { λ r. ⌜ (r ≡ bitOf b) × (r ≤ 1) ⌝ }
 {
     if b { 1 } else { 0 }
 }
@@ -56,7 +55,11 @@ fn illegal_place(own: bool, command: u16) -> usize
 {
     let sub = command::subaddress(command);
     let field = command::count_field(command);
-    0x300 + 128 * one_if(own) + 64 * one_if(command::transmit(command)) + 2 * (sub as usize) + (field / 16) as usize
+    0x300
+        + 128 * one_if(own)
+        + 64 * one_if(command::transmit(command))
+        + 2 * (sub as usize)
+        + (field / 16) as usize
 }
 
 // Bit `bit` of `word`.
@@ -70,11 +73,17 @@ fn bit_set(word: u16, bit: u16) -> bool
 pub fn is_busy_at(ram: &[u16], own: bool, command: u16) -> bool
     ensures { λ r. ⌜ r ≡ isBusyAt (now (ram .entry)) own command ⌝ }
 {
-    bit_set(word_at(ram, busy_place(own, command)), command::subaddress(command) % 16)
+    bit_set(
+        word_at(ram, busy_place(own, command)),
+        command::subaddress(command) % 16,
+    )
 }
 
 pub fn is_illegal_at(ram: &[u16], own: bool, command: u16) -> bool
     ensures { λ r. ⌜ r ≡ isIllegalAt (now (ram .entry)) own command ⌝ }
 {
-    bit_set(word_at(ram, illegal_place(own, command)), command::count_field(command) % 16)
+    bit_set(
+        word_at(ram, illegal_place(own, command)),
+        command::count_field(command) % 16,
+    )
 }

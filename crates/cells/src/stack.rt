@@ -2,11 +2,14 @@
 ghost use mathlib.Core.Path.{_≡_};
 ghost use lib.ListN.{length};
 ghost use Rattle.cells.specs.Stack.{stackPointer, stackWindow, stackSound};
-
 use crate::map::stack_pointer_place;
 use crate::ram::word_at;
-use crate::window::{aligned_around, fits_below, meets_fixed, Window};
-use words::choose::{both, no};
+use crate::window::Window;
+use crate::window::aligned_around;
+use crate::window::fits_below;
+use crate::window::meets_fixed;
+use words::choose::both;
+use words::choose::no;
 use words::settings::Settings;
 
 pub fn stack_pointer(ram: &[u16], s: Settings) -> u16

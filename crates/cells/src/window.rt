@@ -2,8 +2,8 @@
 ghost use mathlib.Core.Path.{_≡_};
 ghost use Prim.Native.Nat.{_+_, _≤_, _%_};
 ghost use Rattle.cells.specs.Window.{runFrom, aligned, placeOf, rollsOver, meets, windowsMeet, meetsFixed, fitsBelow};
-
-use words::choose::{both, either};
+use words::choose::both;
+use words::choose::either;
 
 // A run of `size` words from `start`, and how far into it the pointer stands.
 pub struct Window {
@@ -73,7 +73,12 @@ fn runs_meet(a: usize, n: usize, b: usize, m: usize) -> bool
 pub fn windows_meet(v: Window, w: Window) -> bool
     ensures { λ r. ⌜ r ≡ windowsMeet v w ⌝ }
 {
-    runs_meet(v.start as usize, v.size as usize, w.start as usize, w.size as usize)
+    runs_meet(
+        v.start as usize,
+        v.size as usize,
+        w.start as usize,
+        w.size as usize,
+    )
 }
 
 // Whether a window meets a fixed area.
@@ -82,7 +87,10 @@ pub fn meets_fixed(w: Window) -> bool
 {
     let start = w.start as usize;
     let size = w.size as usize;
-    either(runs_meet(start, size, 0x100, 0x148), runs_meet(start, size, 0x300, 0x100))
+    either(
+        runs_meet(start, size, 0x100, 0x148),
+        runs_meet(start, size, 0x300, 0x100),
+    )
 }
 
 // Whether a window lies in RAM of this length.

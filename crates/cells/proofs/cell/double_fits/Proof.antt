@@ -1,0 +1,30 @@
+-- `double_fits` meets its contract: a case for each scheme.
+use borrow.Author.Needs.{needs}
+use Rattle.cells.specs.Cell.{doubleFits}
+use Rattle.cells.proofs.cell.double_fits.Statement.{statement}
+use Rattle.cells.proofs.cell.double_fits.Tie as tie
+
+enum-told : tie.Need-enum-told
+enum-told c = search needs
+
+enum-told-2 : tie.Need-enum-told-2
+enum-told-2 c = search needs
+
+enum-told-3 : tie.Need-enum-told-3
+enum-told-3 c = search needs
+
+returns : tie.Need-returns
+unfolding doubleFits
+returns c = cc
+
+returns-2 : tie.Need-returns-2
+unfolding doubleFits
+returns-2 c = cc
+
+returns-3 : tie.Need-returns-3
+unfolding doubleFits
+returns-3 c = cc
+
+pub double-fits-spec : {M : Type 1} → statement M
+double-fits-spec =
+    tie.close (tie.spec enum-told enum-told-2 enum-told-3 returns returns-2 returns-3)

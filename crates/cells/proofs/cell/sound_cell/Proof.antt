@@ -1,0 +1,59 @@
+-- `sound_cell` meets its contract: the same tests.
+use borrow.Author.Needs.{needs}
+use Rattle.cells.specs.Cell.{soundCell}
+use Rattle.cells.proofs.cell.sound_cell.Statement.{statement}
+use Rattle.cells.proofs.cell.sound_cell.Tie as tie
+
+window-of-requires : tie.Need-window-of-requires
+window-of-requires c κs = search needs
+
+cast-both : tie.Need-cast-both
+cast-both c = search needs
+
+fits-below-requires : tie.Need-fits-below-requires
+fits-below-requires c κs = search needs
+
+both-requires : tie.Need-both-requires
+both-requires c κs = search needs
+
+meets-fixed-requires : tie.Need-meets-fixed-requires
+meets-fixed-requires c κs = search needs
+
+windows-meet-requires : tie.Need-windows-meet-requires
+windows-meet-requires c κs = search needs
+
+either-requires : tie.Need-either-requires
+either-requires c κs = search needs
+
+no-requires : tie.Need-no-requires
+no-requires c κs = search needs
+
+double-fits-requires : tie.Need-double-fits-requires
+double-fits-requires c κs = search needs
+
+both-requires-2 : tie.Need-both-requires-2
+both-requires-2 c κs = search needs
+
+both-requires-3 : tie.Need-both-requires-3
+both-requires-3 c κs = search needs
+
+returns : tie.Need-returns
+unfolding soundCell
+returns c = cc
+
+pub sound-cell-spec : {M : Type 1} → statement M
+sound-cell-spec =
+    tie.close
+    (tie.spec
+    window-of-requires
+    cast-both
+    fits-below-requires
+    both-requires
+    meets-fixed-requires
+    windows-meet-requires
+    either-requires
+    no-requires
+    double-fits-requires
+    both-requires-2
+    both-requires-3
+    returns)

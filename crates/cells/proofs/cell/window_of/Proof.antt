@@ -1,0 +1,49 @@
+-- `window_of` meets its contract: a window for each scheme.
+use borrow.Author.Needs.{needs}
+use Rattle.cells.specs.Cell.{windowOf}
+use Rattle.cells.proofs.cell.window_of.Statement.{statement}
+use Rattle.cells.proofs.cell.window_of.Tie as tie
+
+enum-told : tie.Need-enum-told
+enum-told c = search needs
+
+run-from-requires : tie.Need-run-from-requires
+run-from-requires c κs = search needs
+
+enum-told-2 : tie.Need-enum-told-2
+enum-told-2 c = search needs
+
+aligned-around-requires : tie.Need-aligned-around-requires
+aligned-around-requires c κs = search needs
+
+enum-known-scheme : tie.Need-enum-known-scheme
+enum-known-scheme c = search needs
+
+aligned-around-requires-2 : tie.Need-aligned-around-requires-2
+aligned-around-requires-2 c κs = search needs
+
+returns : tie.Need-returns
+unfolding windowOf
+returns c = cc
+
+returns-2 : tie.Need-returns-2
+unfolding windowOf
+returns-2 c = cc
+
+returns-3 : tie.Need-returns-3
+unfolding windowOf
+returns-3 c = cc
+
+pub window-of-spec : {M : Type 1} → statement M
+window-of-spec =
+    tie.close
+    (tie.spec
+    enum-told
+    run-from-requires
+    enum-told-2
+    aligned-around-requires
+    enum-known-scheme
+    aligned-around-requires-2
+    returns
+    returns-2
+    returns-3)
