@@ -4,3 +4,4 @@ pub mod Settings
 pub mod Value
 pub mod Layout
 pub mod Writing
+pub mod RoundTrip

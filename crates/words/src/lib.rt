@@ -3,6 +3,7 @@ pub mod choose;
 pub mod command;
 pub mod reader;
 pub mod refusal;
+pub mod round_trip;
 pub mod settings;
 pub mod value;
 pub mod writer;

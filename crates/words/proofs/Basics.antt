@@ -1,0 +1,29 @@
+-- Ways to take a truth value or two numbers apart.
+use Prim.Native.Nat.{ℕ, _<_, _≤_}
+use mathlib.Core.Path.{_≡_, refl}
+use mathlib.Core.Logic.{_⊎_, inl, inr, ⊎-map}
+use mathlib.Core.Bool.{Bool, true, false, _&&_}
+use lib.Dec.{ltb, eqb}
+use borrow.Author.Tests.{ltb-true, ltb-false, eqb-true, eqb-false}
+
+pub yes-or-no : (b : Bool) → (b ≡ true) ⊎ (b ≡ false)
+yes-or-no true = inl refl
+yes-or-no false = inr refl
+
+pub lt-or-ge : (m n : ℕ) → (m < n) ⊎ (n ≤ m)
+unfolding ⊎-map
+lt-or-ge m n = ⊎-map (ltb-true m n) (ltb-false m n) (yes-or-no (ltb m n))
+
+pub eq-or-ne : (m n : ℕ) → (m ≡ n) ⊎ (m ≡ n → ⊥)
+unfolding ⊎-map
+eq-or-ne m n = ⊎-map (eqb-true m n) (eqb-false m n) (yes-or-no (eqb m n))
+
+-- both parts of an `&&` that holds
+pub and-left : (a b : Bool) → (a && b) ≡ true → a ≡ true
+and-left true b e = refl
+and-left false b e = e
+
+pub and-right : (a b : Bool) → (a && b) ≡ true → b ≡ true
+and-right true b e = e
+and-right false true e = refl
+and-right false false e = e

@@ -1,0 +1,107 @@
+-- What stands at each place of a record's bytes and words: the definitions of Layout, Value and Writing, place by place.
+use Prim.Native.Nat.{ℕ, zero, suc, _+_, _*_, _/_, _%_, _<_, _≤_}
+use native.Mathlib.Omega.{arith}
+use mathlib.Core.Path.{_≡_, refl, _∙_}
+use mathlib.Core.Logic.{⊎-elim}
+use mathlib.Core.Bool.{Bool, true, false, _&&_, _||_}
+use mathlib.Core.List.{List}
+use lib.ListN.{length, getD, set, length-set}
+use lib.Seq.{getD-set-same, getD-set-other}
+use lib.Dec.{eqb, ltb}
+use borrow.Author.Tests.{eq-eqb, eqb-true, le-ltb}
+use Rattle.words.specs.Value.{lastsZero}
+use Rattle.words.specs.Layout.{areZero, fill}
+use Rattle.words.specs.Writing.{putWord, putWords}
+use Rattle.words.proofs.Basics.{eq-or-ne, and-left, and-right}
+
+pub length-fill : (f : ℕ → ℕ) (xs : List ℕ) (n : ℕ) → length (fill f xs n) ≡ length xs
+unfolding fill
+length-fill f xs zero = refl
+length-fill f xs (suc n) = simp length-set (length-fill f xs n)
+
+pub fill-at : (f : ℕ → ℕ) (xs : List ℕ) (n k : ℕ) → n ≤ length xs → k < n → getD (fill f xs n) k 0 ≡ f k
+unfolding fill
+fill-at f xs zero k h l = omega arith
+fill-at f xs (suc n) k h l =
+    ⊎-elim
+    (λ e.
+    let p : n < length (fill f xs n) = omega (arith, length-fill f xs n) in
+    rw e (getD-set-same (fill f xs n) n (f n) 0 p))
+    (λ ne. getD-set-other (fill f xs n) n k (f n) 0 ne ∙ fill-at f xs n k (omega arith) (omega arith))
+    (eq-or-ne k n)
+
+pub length-put : (s words : List ℕ) (n : ℕ) → length (putWords s words n) ≡ length s
+unfolding putWords
+length-put s words zero = refl
+length-put s words (suc n) = simp length-set (length-put s words n)
+
+-- a place that no word reaches
+pub put-before : (s words : List ℕ) (n k : ℕ) → k < 16 → getD (putWords s words n) k 0 ≡ getD s k 0
+unfolding putWords
+put-before s words zero k l = refl
+put-before s words (suc n) k l =
+    let p : (k ≡ 16 + 2 * n + 1 → ⊥) = λ e. omega arith in
+    let q : (k ≡ 16 + 2 * n → ⊥) = λ e. omega arith in
+    rw (getD-set-other, getD-set-other) (put-before s words n k l)
+
+-- the high byte of word k
+pub put-high :
+    (s words : List ℕ) (n k : ℕ) → length s ≡ 80 → n ≤ 32 → k < n →
+    getD (putWords s words n) (16 + 2 * k) 0 ≡ getD words k 0 / 256 % 256
+unfolding putWords
+put-high s words zero k e h l = omega arith
+put-high s words (suc n) k e h l =
+    let o : (16 + 2 * k ≡ 16 + 2 * n + 1 → ⊥) = λ x. omega arith in
+    ⊎-elim
+    (λ same.
+    let p : 16 + 2 * n < length (putWords s words n) = omega (arith, length-put s words n) in
+    rw getD-set-other (rw same (getD-set-same (putWords s words n) (16 + 2 * n) _ 0 p)))
+    (λ ne.
+    let q : (16 + 2 * k ≡ 16 + 2 * n → ⊥) = λ x. ne (omega arith) in
+    rw (getD-set-other, getD-set-other) (put-high s words n k e (omega arith) (omega arith)))
+    (eq-or-ne k n)
+
+-- the low byte of word k
+pub put-low :
+    (s words : List ℕ) (n k : ℕ) → length s ≡ 80 → n ≤ 32 → k < n →
+    getD (putWords s words n) (16 + 2 * k + 1) 0 ≡ getD words k 0 % 256
+unfolding putWords
+put-low s words zero k e h l = omega arith
+put-low s words (suc n) k e h l =
+    ⊎-elim
+    (λ same.
+    let p : 16 + 2 * n + 1 < length (set (putWords s words n) (16 + 2 * n) (getD words n 0 / 256 % 256)) = simp length-set (omega (arith, length-put s words n)) in
+    rw same (getD-set-same (set (putWords s words n) (16 + 2 * n) (getD words n 0 / 256 % 256)) (16 + 2 * n + 1) _ 0 p))
+    (λ ne.
+    let q : (16 + 2 * k + 1 ≡ 16 + 2 * n + 1 → ⊥) = λ x. ne (omega arith) in
+    let o : (16 + 2 * k + 1 ≡ 16 + 2 * n → ⊥) = λ x. omega arith in
+    rw (getD-set-other, getD-set-other) (put-low s words n k e (omega arith) (omega arith)))
+    (eq-or-ne k n)
+
+pub are-zero-at : (s : List ℕ) (from n k : ℕ) → areZero s from n ≡ true → k < n → getD s (from + k) 0 ≡ 0
+unfolding areZero
+are-zero-at s from zero k e l = omega arith
+are-zero-at s from (suc n) k e l =
+    ⊎-elim
+    (λ same. rw same (eqb-true _ _ (and-right (areZero s from n) _ e)))
+    (λ ne. are-zero-at s from n k (and-left _ _ e) (omega arith))
+    (eq-or-ne k n)
+
+pub are-zero-of :
+    (s : List ℕ) (from n : ℕ) → ((k : ℕ) → k < n → getD s (from + k) 0 ≡ 0) → areZero s from n ≡ true
+unfolding areZero
+are-zero-of s from zero h = refl
+are-zero-of s from (suc n) h =
+    simp (are-zero-of s from n (λ k l. h k (omega arith)), eq-eqb (getD s (from + n) 0) 0 (h n (omega arith)))
+
+pub lasts-zero-at :
+    (words : List ℕ) (count n k : ℕ) → lastsZero words count n ≡ true → k < n → count ≤ k → getD words k 0 ≡ 0
+unfolding lastsZero
+lasts-zero-at words count zero k e l h = omega arith
+lasts-zero-at words count (suc n) k e l h =
+    ⊎-elim
+    (λ same.
+    let late : ltb n count ≡ false = le-ltb n count (omega arith) in
+    rw same (eqb-true (getD words n 0) 0 (simp late at (and-right (lastsZero words count n) _ e))))
+    (λ ne. lasts-zero-at words count n k (and-left _ _ e) (omega arith) h)
+    (eq-or-ne k n)
