@@ -4,3 +4,6 @@ pub mod Cases
 pub mod Places
 pub mod Inverse
 pub mod Trips
+pub mod Refusals
+pub mod Commands
+pub mod SettingsLaws

@@ -2,17 +2,18 @@
 use Prim.Native.Nat.{ℕ, zero, suc, _+_, _*_, _/_, _%_, _<_, _≤_}
 use native.Mathlib.Omega.{arith}
 use mathlib.Core.Path.{_≡_, refl, _∙_}
-use mathlib.Core.Logic.{⊎-elim}
-use mathlib.Core.Bool.{Bool, true, false, _&&_, _||_}
+use mathlib.Core.Logic.{_↔_, ⊎-elim}
+use mathlib.Core.Bool.{Bool, true, false, _&&_, _||_, or-true}
 use mathlib.Core.List.{List}
 use lib.ListN.{length, getD, set, length-set}
 use lib.Seq.{getD-set-same, getD-set-other}
-use lib.Dec.{eqb, ltb}
-use borrow.Author.Tests.{eq-eqb, eqb-true, le-ltb}
-use Rattle.words.specs.Value.{lastsZero}
+use lib.Dec.{eqb, ltb, leb}
+use borrow.Author.Tests.{eq-eqb, eqb-true, lt-ltb, le-ltb, le-leb, leb-true}
+use Rattle.words.specs.declared.value.Record.{Record}
+use Rattle.words.specs.Value.{lastsZero, keepsLayout}
 use Rattle.words.specs.Layout.{areZero, fill}
 use Rattle.words.specs.Writing.{putWord, putWords}
-use Rattle.words.proofs.Basics.{eq-or-ne, and-left, and-right}
+use Rattle.words.proofs.Basics.{lt-or-ge, eq-or-ne, and-left, and-right}
 
 pub length-fill : (f : ℕ → ℕ) (xs : List ℕ) (n : ℕ) → length (fill f xs n) ≡ length xs
 unfolding fill
@@ -105,3 +106,43 @@ lasts-zero-at words count (suc n) k e l h =
     rw same (eqb-true (getD words n 0) 0 (simp late at (and-right (lastsZero words count n) _ e))))
     (λ ne. lasts-zero-at words count n k (and-left _ _ e) (omega arith) h)
     (eq-or-ne k n)
+
+pub lasts-zero-of :
+    (words : List ℕ) (count n : ℕ) → ((k : ℕ) → count ≤ k → k < n → getD words k 0 ≡ 0) → lastsZero words count n ≡ true
+unfolding lastsZero
+lasts-zero-of words count zero h = refl
+lasts-zero-of words count (suc n) h =
+    rw (lasts-zero-of words count n (λ k a l. h k a (omega arith)))
+    (⊎-elim
+    (λ early. rw (lt-ltb n count early))
+    (λ late. rw (eq-eqb (getD words n 0) 0 (h n late (omega arith))) (or-true (ltb n count)))
+    (lt-or-ge n count))
+
+-- the rules of a record value, one by one
+pub record Lawful (v : Record) : Type 0 where
+  pub flags : v .flags ≤ 7
+  pub count : v .count ≤ 33
+  pub rest : (k : ℕ) → v .count ≤ k → k < 32 → getD (v .words) k 0 ≡ 0
+
+lawful-of : (v : Record) → keepsLayout v ≡ true → Lawful v
+unfolding keepsLayout
+lawful-of v e =
+    let limits = and-left (leb (v .flags) 7 && leb (v .count) 33) (lastsZero (v .words) (v .count) 32) e in
+    record {
+      flags = leb-true (v .flags) 7 (and-left (leb (v .flags) 7) (leb (v .count) 33) limits);
+      count = leb-true (v .count) 33 (and-right (leb (v .flags) 7) (leb (v .count) 33) limits);
+      rest =
+          λ k a l.
+          lasts-zero-at (v .words) (v .count) 32 k
+          (and-right (leb (v .flags) 7 && leb (v .count) 33) (lastsZero (v .words) (v .count) 32) e)
+          l a;
+    }
+
+keeps-of : (v : Record) → Lawful v → keepsLayout v ≡ true
+unfolding keepsLayout
+keeps-of v h =
+    rw (le-leb (v .flags) 7 (h .flags), le-leb (v .count) 33 (h .count)) (lasts-zero-of (v .words) (v .count) 32 (h .rest))
+
+-- a value keeps the layout exactly when it keeps each rule
+pub keeps-layout : (v : Record) → (keepsLayout v ≡ true) ↔ Lawful v
+keeps-layout v = (lawful-of v, keeps-of v)
