@@ -7,3 +7,4 @@ pub mod Trips
 pub mod Refusals
 pub mod Commands
 pub mod SettingsLaws
+pub mod Determined

@@ -1,0 +1,103 @@
+-- The inputs determine the answer: any two results that a public function's contract allows are equal.
+-- `Settled` speaks of the contract as the checker reads it (`Reads.Post`), so no line here can drift from its function.
+use Prim.Native.Nat.{ℕ}
+use mathlib.Core.Path.{_≡_, refl, sym, _∙_}
+use mathlib.Core.List.{List}
+use contract.Lifetimes.{Lfts}
+use borrow.Fn.Kinds.{PK, RK, Dens, Out, resT, endedOf}
+use denote.Triple.Clauses.{Lasts, atExit}
+use Rattle.words.proofs.choose
+use Rattle.words.proofs.command
+use Rattle.words.proofs.reader
+use Rattle.words.proofs.refusal
+use Rattle.words.proofs.round_trip
+use Rattle.words.proofs.settings
+use Rattle.words.proofs.value
+use Rattle.words.proofs.writer
+
+-- two results that are equal to one definition's value are equal
+pub determined : {A : Type 0} {d x y : A} → x ≡ d → y ≡ d → x ≡ y
+determined p q = p ∙ sym q
+
+-- For each input the contract allows one result, and one last value of each lent word.
+abbrev pub Settled : (n : ℕ) (ps : List (PK n)) (r : RK n) → Out n ps r → Type 0
+Settled n ps r post =
+    (κs : Lfts n) (a : Dens κs ps) (x y : resT r κs .Denot) (v w : Lasts (endedOf n ps r) κs a) →
+    post κs a x (atExit (endedOf n ps r) κs a v) →
+    post κs a y (atExit (endedOf n ps r) κs a w) →
+    (x ≡ y) × (v ≡ w)
+
+pub both-settled : Settled 0 choose.both.Kinds.ps choose.both.Kinds.r choose.both.Reads.Post
+both-settled κs a x y v w p q = (determined p q, refl)
+
+pub either-settled : Settled 0 choose.either.Kinds.ps choose.either.Kinds.r choose.either.Reads.Post
+either-settled κs a x y v w p q = (determined p q, refl)
+
+pub no-settled : Settled 0 choose.no.Kinds.ps choose.no.Kinds.r choose.no.Reads.Post
+no-settled κs a x y v w p q = (determined p q, refl)
+
+pub pick-settled : Settled 0 choose.pick.Kinds.ps choose.pick.Kinds.r choose.pick.Reads.Post
+pick-settled κs a x y v w p q = (determined p q, refl)
+
+pub address-settled : Settled 0 command.address.Kinds.ps command.address.Kinds.r command.address.Reads.Post
+address-settled κs a x y v w p q = (determined p q, refl)
+
+pub transmit-settled : Settled 0 command.transmit.Kinds.ps command.transmit.Kinds.r command.transmit.Reads.Post
+transmit-settled κs a x y v w p q = (determined p q, refl)
+
+pub subaddress-settled : Settled 0 command.subaddress.Kinds.ps command.subaddress.Kinds.r command.subaddress.Reads.Post
+subaddress-settled κs a x y v w p q = (determined p q, refl)
+
+pub count-field-settled : Settled 0 command.count_field.Kinds.ps command.count_field.Kinds.r command.count_field.Reads.Post
+count-field-settled κs a x y v w p q = (determined p q, refl)
+
+pub word-count-settled : Settled 0 command.word_count.Kinds.ps command.word_count.Kinds.r command.word_count.Reads.Post
+word-count-settled κs a x y v w p q = (determined p q, refl)
+
+pub mode-subaddress-settled : Settled 0 command.mode_subaddress.Kinds.ps command.mode_subaddress.Kinds.r command.mode_subaddress.Reads.Post
+mode-subaddress-settled κs a x y v w p q = (determined p q, refl)
+
+pub read-settled : Settled 1 reader.read.Kinds.ps reader.read.Kinds.r reader.read.Reads.Post
+read-settled κs a x y v w p q = (determined p q, refl)
+
+pub first-refusal-settled : Settled 0 refusal.first_refusal.Kinds.ps refusal.first_refusal.Kinds.r refusal.first_refusal.Reads.Post
+first-refusal-settled κs a x y v w p q = (determined p q, refl)
+
+pub read-written-settled : Settled 0 round_trip.read_written.Kinds.ps round_trip.read_written.Kinds.r round_trip.read_written.Reads.Post
+read-written-settled κs a x y v w p q = (determined p q, refl)
+
+pub write-read-settled : Settled 1 round_trip.write_read.Kinds.ps round_trip.write_read.Kinds.r round_trip.write_read.Reads.Post
+write-read-settled κs a x y v w p q = (determined p q, refl)
+
+pub nothing-remembered-settled : Settled 0 settings.nothing_remembered.Kinds.ps settings.nothing_remembered.Kinds.r settings.nothing_remembered.Reads.Post
+nothing-remembered-settled κs a x y v w p q = (determined p q, refl)
+
+pub settings-refused-settled : Settled 0 settings.settings_refused.Kinds.ps settings.settings_refused.Kinds.r settings.settings_refused.Reads.Post
+settings-refused-settled κs a x y v w p q = (determined p q, refl)
+
+pub is-own-settled : Settled 0 settings.is_own.Kinds.ps settings.is_own.Kinds.r settings.is_own.Reads.Post
+is-own-settled κs a x y v w p q = (determined p q, refl)
+
+pub is-broadcast-settled : Settled 0 settings.is_broadcast.Kinds.ps settings.is_broadcast.Kinds.r settings.is_broadcast.Reads.Post
+is-broadcast-settled κs a x y v w p q = (determined p q, refl)
+
+pub is-not-ours-settled : Settled 0 settings.is_not_ours.Kinds.ps settings.is_not_ours.Kinds.r settings.is_not_ours.Reads.Post
+is-not-ours-settled κs a x y v w p q = (determined p q, refl)
+
+pub zero-value-settled : Settled 0 value.zero_value.Kinds.ps value.zero_value.Kinds.r value.zero_value.Reads.Post
+zero-value-settled κs a x y v w p q = (determined p q, refl)
+
+pub bus-b-settled : Settled 0 value.bus_b.Kinds.ps value.bus_b.Kinds.r value.bus_b.Reads.Post
+bus-b-settled κs a x y v w p q = (determined p q, refl)
+
+pub wrong-sync-settled : Settled 0 value.wrong_sync.Kinds.ps value.wrong_sync.Kinds.r value.wrong_sync.Reads.Post
+wrong-sync-settled κs a x y v w p q = (determined p q, refl)
+
+pub invalid-word-settled : Settled 0 value.invalid_word.Kinds.ps value.invalid_word.Kinds.r value.invalid_word.Reads.Post
+invalid-word-settled κs a x y v w p q = (determined p q, refl)
+
+pub keeps-layout-settled : Settled 0 value.keeps_layout.Kinds.ps value.keeps_layout.Kinds.r value.keeps_layout.Reads.Post
+keeps-layout-settled κs a x y v w p q = (determined p q, refl)
+
+pub write-settled : Settled 0 writer.write.Kinds.ps writer.write.Kinds.r writer.write.Reads.Post
+write-settled κs a x y v w p q = (determined p q, refl)
