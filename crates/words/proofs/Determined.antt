@@ -1,11 +1,7 @@
--- The inputs determine the answer: any two results that a public function's contract allows are equal.
--- `Settled` speaks of the contract as the checker reads it (`Reads.Post`), so no line here can drift from its function.
-use Prim.Native.Nat.{ℕ}
-use mathlib.Core.Path.{_≡_, refl, sym, _∙_}
-use mathlib.Core.List.{List}
-use contract.Lifetimes.{Lfts}
-use borrow.Fn.Kinds.{PK, RK, Dens, Out, resT, endedOf}
-use denote.Triple.Clauses.{Lasts, atExit}
+-- The inputs determine the answer: for each public function, any two results that its contract allows are equal.
+-- Each line speaks of the contract as the checker reads it (`Reads.Post`), so that none can drift from its function.
+use mathlib.Core.Path.{refl}
+use Rattle.words.proofs.Settled.{determined, Settled}
 use Rattle.words.proofs.choose
 use Rattle.words.proofs.command
 use Rattle.words.proofs.reader
@@ -14,18 +10,6 @@ use Rattle.words.proofs.round_trip
 use Rattle.words.proofs.settings
 use Rattle.words.proofs.value
 use Rattle.words.proofs.writer
-
--- two results that are equal to one definition's value are equal
-pub determined : {A : Type 0} {d x y : A} → x ≡ d → y ≡ d → x ≡ y
-determined p q = p ∙ sym q
-
--- For each input the contract allows one result, and one last value of each lent word.
-abbrev pub Settled : (n : ℕ) (ps : List (PK n)) (r : RK n) → Out n ps r → Type 0
-Settled n ps r post =
-    (κs : Lfts n) (a : Dens κs ps) (x y : resT r κs .Denot) (v w : Lasts (endedOf n ps r) κs a) →
-    post κs a x (atExit (endedOf n ps r) κs a v) →
-    post κs a y (atExit (endedOf n ps r) κs a w) →
-    (x ≡ y) × (v ≡ w)
 
 pub both-settled : Settled 0 choose.both.Kinds.ps choose.both.Kinds.r choose.both.Reads.Post
 both-settled κs a x y v w p q = (determined p q, refl)

@@ -7,4 +7,5 @@ pub mod Trips
 pub mod Refusals
 pub mod Commands
 pub mod SettingsLaws
+pub mod Settled
 pub mod Determined
