@@ -1,0 +1,49 @@
+-- The trace program's whole output for a whole input.
+use Prim.Native.Nat.{ℕ, _*_, _%_}
+use mathlib.Core.Bool.{true, false, cond}
+use mathlib.Core.List.{List, [], _++_}
+use lib.ListN.{length, take, drop, replicate}
+use lib.Dec.{ltb}
+use Rattle.words.specs.declared.settings.Settings.{Settings}
+use Rattle.words.specs.declared.settings.Area.the-variants.{A}
+use Rattle.words.specs.Settings.{nothingRemembered}
+use Rattle.words.specs.Layout.{fill, wordAt}
+use Rattle.trace.specs.Line.{tailLine, endLine, imageLine}
+use Rattle.trace.specs.Walk.{Walk, walkStart, walkAll}
+
+-- "with RT 5, area A, stack 256, overwrite-invalid on and the rest off"
+unfoldable pub programSettings : Settings
+programSettings =
+    record {
+      address = 5;
+      area = A;
+      «stack_size» = 256;
+      «overwrite_invalid» = true;
+      «separate_broadcast» = false;
+      «illegal_receive_disable» = false;
+      «busy_receive_disable» = false;
+      «busy_always» = false;
+      «service_request» = false;
+      «subsystem_flag» = false;
+      «terminal_flag» = false;
+    }
+
+-- "8,192 bytes of RAM image, each word high byte first": the first n words of it, put over ram
+unfoldable pub imageInto : List ℕ → List ℕ → ℕ → List ℕ
+imageInto bytes ram n = fill (λ k. wordAt bytes (2 * k)) ram n
+
+unfoldable pub imageRam : List ℕ → List ℕ
+imageRam bytes = imageInto bytes (replicate 4096 0) 4096
+
+-- the lines after the last whole record: the tail, if there is one, and the end line
+unfoldable pub lastLines : ℕ → ℕ → List ℕ
+lastLines tail number = tailLine tail ++ endLine number
+
+unfoldable pub traceText : List ℕ → List ℕ → List ℕ
+traceText ram trace =
+    walkAll programSettings trace (walkStart ram (replicate 33 0) nothingRemembered 0) .text
+    ++ lastLines (length trace % 80) (walkAll programSettings trace (walkStart ram (replicate 33 0) nothingRemembered 0) .number)
+
+unfoldable pub programOutput : List ℕ → List ℕ
+programOutput input =
+    cond (ltb (length input) 8192) (imageLine (length input)) (traceText (imageRam (take 8192 input)) (drop 8192 input))

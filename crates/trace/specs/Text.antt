@@ -1,0 +1,35 @@
+-- Numbers as text, in ASCII. "Stored words are four hexadecimal digits, the rest decimal."
+use Prim.Native.Nat.{ℕ, zero, suc, _+_, _/_, _%_}
+use mathlib.Core.Bool.{cond}
+use mathlib.Core.List.{List, [], _∷_, _++_}
+use lib.Dec.{ltb}
+
+-- `0` to `9`, then `A` to `F`
+unfoldable pub hexDigit : ℕ → ℕ
+hexDigit d = cond (ltb d 10) (48 + d) (55 + d)
+
+-- four hexadecimal digits
+unfoldable pub hexText : ℕ → List ℕ
+hexText w =
+    hexDigit (w / 4096 % 16) ∷ hexDigit (w / 256 % 16) ∷ hexDigit (w / 16 % 16) ∷ hexDigit (w % 16) ∷ []
+
+-- the last k decimal digits of n, the most significant first
+unfoldable pub digits : ℕ → ℕ → List ℕ
+digits zero n = []
+digits (suc k) n = digits k (n / 10) ++ (48 + n % 10 ∷ [])
+
+-- how many decimal digits n has, counted up to `most`
+unfoldable pub placesUpTo : ℕ → ℕ → ℕ
+placesUpTo zero n = 1
+placesUpTo (suc most) n = cond (ltb n 10) 1 (suc (placesUpTo most (n / 10)))
+
+-- a number below 2^64 has at most 20 digits
+unfoldable pub decimalText : ℕ → List ℕ
+decimalText n = digits (placesUpTo 19 n) n
+
+-- a space, and the end of a line
+abbrev pub space : List ℕ
+space = 32 ∷ []
+
+abbrev pub newline : List ℕ
+newline = 10 ∷ []

@@ -1,0 +1,58 @@
+-- Walking a trace: message by message over its whole records. "Walking a trace hands on the next 80 bytes from the middle of
+-- what was read."
+use Prim.Native.Nat.{ℕ, zero, suc, _+_, _*_, _/_, _%_, _^_}
+use mathlib.Core.List.{List, [], _++_}
+use lib.ListN.{length, take, drop}
+use Rattle.words.specs.declared.settings.Settings.{Settings}
+use Rattle.words.specs.declared.settings.Remembered.{Remembered}
+use Rattle.message.specs.declared.answer.Answer.{Answer}
+use Rattle.message.specs.Message.{outcomeOfBytes}
+use Rattle.message.specs.Run.{State, stepBytes}
+use Rattle.trace.specs.declared.walk.Walked.{Walked}
+use Rattle.trace.specs.Line.{lineOf}
+
+-- record n of a trace, counted from 0
+abbrev pub recordAt : List ℕ → ℕ → List ℕ
+recordAt trace n = take 80 (drop (80 * n) trace)
+
+abbrev pub wholeRecords : List ℕ → ℕ
+wholeRecords trace = length trace / 80
+
+-- what stands after some records: the terminal, the number of the last record, the text so far
+pub record Walk : Type 0 where
+  pub state : State
+  pub number : ℕ
+  pub text : List ℕ
+
+-- records are counted in 64 bits
+abbrev pub nextNumber : ℕ → ℕ
+nextNumber n = (n + 1) % 2 ^ 64
+
+abbrev pub answerTo : Settings → List ℕ → State → Answer
+answerTo s bytes x = outcomeOfBytes (x .ram) (x .reply) s (x .remembered) bytes .answer
+
+-- one record more
+unfoldable pub walkRecord : Settings → List ℕ → Walk → Walk
+walkRecord s bytes w =
+    record {
+      state = stepBytes s bytes (w .state);
+      number = nextNumber (w .number);
+      text = w .text ++ lineOf (nextNumber (w .number)) (answerTo s bytes (w .state));
+    }
+
+-- the first n records
+unfoldable pub walkTo : Settings → List ℕ → Walk → ℕ → Walk
+walkTo s trace w zero = w
+walkTo s trace w (suc n) = walkRecord s (recordAt trace n) (walkTo s trace w n)
+
+-- all whole records, from RAM, reply, remembered state and record number
+abbrev pub walkStart : List ℕ → List ℕ → Remembered → ℕ → Walk
+walkStart ram reply before number =
+    record { state = record { ram = ram; reply = reply; remembered = before }; number = number; text = [] }
+
+unfoldable pub walkAll : Settings → List ℕ → Walk → Walk
+walkAll s trace w = walkTo s trace w (wholeRecords trace)
+
+-- what the function hands back by value
+abbrev pub walkedOf : Walk → Walked
+walkedOf w = record { remembered = w .state .remembered; number = w .number; used = length (w .text) }
