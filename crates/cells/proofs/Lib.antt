@@ -1,2 +1,5 @@
 pub mod Places
 pub mod Turns
+pub mod Flags
+pub mod Wrap
+pub mod Meets
