@@ -1,14 +1,14 @@
 -- Whether two runs of words share one: the test is symmetric, and says no exactly where no address lies in both.
 use Prim.Native.Nat.{ℕ, _+_, _≤_, _<_}
 use native.Mathlib.Omega.{arith}
-use mathlib.Core.Path.{_≡_, refl}
+use mathlib.Core.Path.{_≡_}
 use mathlib.Core.Logic.{_⊎_, inl, inr, ⊎-elim}
-use mathlib.Core.Bool.{Bool, true, false, _&&_, and-comm, and-false}
+use mathlib.Core.Bool.{true, false, and-comm, and-false}
 use lib.Dec.{ltb}
-use borrow.Author.Tests.{ltb-true, ltb-false, lt-ltb, le-ltb}
+use borrow.Author.Tests.{ltb-true, lt-ltb, le-ltb}
 use Rattle.cells.specs.declared.window.Window.{Window}
 use Rattle.cells.specs.Window.{placeOf, meets, windowsMeet}
-use Rattle.cells.proofs.Flags.{and-left, and-right, and-both, decided, not-both, low-or-high}
+use Rattle.cells.proofs.Flags.{and-left, and-right, and-both, not-both, low-or-high}
 use Rattle.cells.proofs.Wrap.{place-from, place-below}
 
 -- the n words from a and the m words from b are apart: one ends before the other begins

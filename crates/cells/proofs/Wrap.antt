@@ -1,13 +1,12 @@
 -- Wrapping inside a window, once over the size: a place lies in its window, places in a row differ, and the place after k
 -- agrees with the rollover test. Then the blocks that are aligned, the single window and the double one.
 use Prim.Native.Nat.{ℕ, _+_, _-_, _*_, _/_, _%_, _≤_, _<_}
-use native.Mathlib.Nat.{mod-lt, mod-le, mod-mod, mod-eq-of-lt, mod-eq-sub-mod, mod-add-mod, div-add-mod, mul-add-mod-self-left}
+use native.Mathlib.Nat.{mod-lt, mod-le, mod-eq-of-lt, mod-eq-sub-mod, mod-add-mod, div-add-mod, mul-add-mod-self-left}
 use native.Mathlib.Omega.{arith}
 use mathlib.Core.Path.{_≡_, refl, sym, ap, _∙_}
 use mathlib.Core.Logic.{_⊎_, inl, inr, ⊎-elim}
-use mathlib.Core.Bool.{Bool, true, false}
-use lib.Dec.{leb}
-use borrow.Author.Tests.{leb-true, leb-false, le-leb, lt-leb}
+use mathlib.Core.Bool.{true, false}
+use borrow.Author.Tests.{leb-true, leb-false}
 use Rattle.cells.specs.declared.window.Window.{Window}
 use Rattle.cells.specs.Window.{runFrom, aligned, placeOf, rollsOver}
 use Rattle.cells.proofs.Flags.{low-or-high}
@@ -123,6 +122,17 @@ module _ (p n : ℕ) where
   place-after j k h =
       let a : aligned p n .offset + j + k ≡ aligned p n .offset + (j + k) = omega arith in
       rw (aligned-moved j h, aligned-size, mod-add-mod, a)
+
+-- two windows of the same words; their pointers may stand at different places
+pub record SameRun (v w : Window) : Type 0 where
+  pub start : v .start ≡ w .start
+  pub size : v .size ≡ w .size
+
+pub aligned-same :
+    (p n q : ℕ) → aligned p n .start ≤ q → q < aligned p n .start + n → SameRun (aligned q n) (aligned p n)
+aligned-same p n q l h =
+    let e = aligned-inside p n q l h in
+    record { start = ap (λ (w : Window). w .start) e; size = aligned-size q n ∙ sym (aligned-size p n) }
 
 -- "Single .. The window is the 32 words from the pointer": no place below its size wraps
 pub place-single : (p n k : ℕ) → k < n → placeOf (runFrom p n) k ≡ p + k

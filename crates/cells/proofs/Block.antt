@@ -1,0 +1,160 @@
+-- What it tells that the stack is sound, as named facts and back again; and with a listed size, that the four words of a
+-- descriptor lie in a row in the block, and that the pointer moved on by 4 is sound in the same block.
+use Prim.Native.Nat.{ℕ, _+_, _-_, _%_, _≤_, _<_}
+use native.Mathlib.Omega.{arith}
+use native.Mathlib.Nat.{mod-lt, mod-le, mod-eq-of-lt, mod-mod-of-dvd, dvd-of-mod-eq-zero}
+use mathlib.Core.Path.{_≡_}
+use mathlib.Core.Logic.{_⊎_, ⊎-elim}
+use mathlib.Core.Bool.{true, not, _&&_, _||_}
+use mathlib.Core.List.{List}
+use lib.ListN.{length}
+use lib.Dec.{leb, eqb}
+use borrow.Author.Tests.{leb-true, eqb-true, le-leb, eq-eqb, not-true}
+use Rattle.words.specs.declared.settings.Settings.{Settings}
+use Rattle.words.specs.Settings.{stackSizeListed}
+use Rattle.cells.specs.Window.{aligned, placeOf, meetsFixed, fitsBelow}
+use Rattle.cells.specs.Stack.{stackPointer, stackWindow, stackSound}
+use Rattle.cells.proofs.Flags.{and-left, and-right, or-either}
+use Rattle.cells.proofs.Wrap.{place-from, place-below, aligned-size, aligned-same, SameRun}
+use Rattle.cells.proofs.Sound.{OffFixed, fixed-off, off-fixed, OrdinaryAddress, ordinary-address}
+
+-- the sentence "The stack is sound if ..", fact by fact
+pub record StackSound (ram : List ℕ) (s : Settings) : Type 0 where
+  pub multiple : stackPointer ram s % 4 ≡ 0
+  pub pointer : stackPointer ram s + 4 ≤ length ram
+  pub inside : stackWindow ram s .start + stackWindow ram s .size ≤ length ram
+  pub fixed : OffFixed (stackWindow ram s)
+
+module _ (ram : List ℕ) (s : Settings) where
+  pub stack-sound-facts : stackSound ram s ≡ true → StackSound ram s
+  unfolding stackSound
+  stack-sound-facts e =
+      let p = stackPointer ram s in
+      let w = stackWindow ram s in
+      let placed = eqb (p % 4) 0 && leb (p + 4) (length ram) in
+      let blocked = fitsBelow w (length ram) && not (meetsFixed w) in
+      let a : placed ≡ true = and-left placed blocked e in
+      let b : blocked ≡ true = and-right placed blocked e in
+      record {
+        multiple = eqb-true _ _ (and-left (eqb (p % 4) 0) (leb (p + 4) (length ram)) a);
+        pointer = leb-true _ _ (and-right (eqb (p % 4) 0) (leb (p + 4) (length ram)) a);
+        inside = leb-true _ _ (and-left (fitsBelow w (length ram)) (not (meetsFixed w)) b);
+        fixed = fixed-off w (not-true _ (and-right (fitsBelow w (length ram)) (not (meetsFixed w)) b));
+      }
+
+  pub stack-facts-sound : StackSound ram s → stackSound ram s ≡ true
+  unfolding stackSound
+  stack-facts-sound f =
+      let p = stackPointer ram s in
+      let w = stackWindow ram s in
+      rw (
+        eq-eqb (p % 4) 0 (f .multiple),
+        le-leb (p + 4) (length ram) (f .pointer),
+        le-leb (w .start + w .size) (length ram) (f .inside),
+        off-fixed w (f .fixed),
+      )
+
+-- every address of a sound stack's block is ordinary
+pub stack-address :
+    (ram : List ℕ) (s : Settings) → StackSound ram s → (x : ℕ) → stackWindow ram s .start ≤ x →
+    x < stackWindow ram s .start + stackWindow ram s .size → OrdinaryAddress (length ram) x
+stack-address ram s f = ordinary-address (length ram) (stackWindow ram s) (f .inside) (f .fixed)
+
+-- what is used of the listed sizes
+pub record WholeEntries (n : ℕ) : Type 0 where
+  pub some : 0 < n
+  pub fours : n % 4 ≡ 0
+
+pub size-whole : (n : ℕ) → stackSizeListed n ≡ true → WholeEntries n
+unfolding stackSizeListed
+size-whole n e =
+    let one : (k : ℕ) → WholeEntries k → eqb n k ≡ true → WholeEntries n = λ k z h. rw (eqb-true n k h) z in
+    let small : (eqb n 256 || eqb n 512) ≡ true → WholeEntries n =
+    λ h. ⊎-elim (one 256 (omega arith)) (one 512 (omega arith)) (or-either (eqb n 256) (eqb n 512) h) in
+    let large : (eqb n 1024 || eqb n 2048) ≡ true → WholeEntries n =
+    λ h. ⊎-elim (one 1024 (omega arith)) (one 2048 (omega arith)) (or-either (eqb n 1024) (eqb n 2048) h) in
+    ⊎-elim small large (or-either (eqb n 256 || eqb n 512) (eqb n 1024 || eqb n 2048) e)
+
+module _ (p n : ℕ) (m : p % 4 ≡ 0) (z : WholeEntries n) where
+  -- the offset in the block is a multiple of 4, so four words fit behind it
+  entry-fits : p % n + 4 ≤ n
+  entry-fits =
+      let h : p % n < n = mod-lt p (z .some) in
+      let d : p % n % 4 ≡ p % 4 = mod-mod-of-dvd 4 p (dvd-of-mod-eq-zero 4 (z .fours)) in
+      omega (arith, z .fours)
+
+  -- the four words of a descriptor stand in a row
+  entry-straight : (k : ℕ) → k < 4 → placeOf (aligned p n) k ≡ p + k
+  unfolding placeOf aligned
+  entry-straight k h =
+      let l : p % n + k < n = omega (arith, entry-fits) in
+      omega (arith, mod-eq-of-lt l, mod-le p n)
+
+  -- the pointer moved on by 4 is a multiple of 4
+  entry-next : placeOf (aligned p n) 4 % 4 ≡ 0
+  unfolding placeOf aligned
+  entry-next =
+      let d = mod-mod-of-dvd 4 (p % n + 4) (dvd-of-mod-eq-zero 4 (z .fours)) in
+      let e = mod-mod-of-dvd 4 p (dvd-of-mod-eq-zero 4 (z .fours)) in
+      omega (arith, d, e, mod-le p n)
+
+  -- and the block around it is the same block
+  entry-same : SameRun (aligned (placeOf (aligned p n) 4) n) (aligned p n)
+  entry-same =
+      let b = place-below (aligned p n) 4 (rw aligned-size (z .some)) in
+      aligned-same p n (placeOf (aligned p n) 4) (place-from (aligned p n) 4) (omega (arith, b, aligned-size p n))
+
+  -- with room for four words behind it
+  entry-room : p + 4 ≤ aligned p n .start + aligned p n .size
+  unfolding aligned
+  entry-room = omega (arith, entry-fits, mod-le p n)
+
+-- what the message needs of a sound stack of a listed size
+module _ (ram : List ℕ) (s : Settings) (listed : stackSizeListed (s .«stack_size») ≡ true) (f : StackSound ram s) where
+  pub stack-nonempty : 0 < stackWindow ram s .size
+  unfolding stackWindow
+  stack-nonempty = rw aligned-size (size-whole (s .«stack_size») listed .some)
+
+  -- the four words of a descriptor stand in a row from the stack pointer on
+  pub stack-word : (k : ℕ) → k < 4 → placeOf (stackWindow ram s) k ≡ stackPointer ram s + k
+  unfolding stackWindow
+  stack-word = entry-straight (stackPointer ram s) (s .«stack_size») (f .multiple) (size-whole _ listed)
+
+  -- in the block
+  pub stack-word-from : (k : ℕ) → k < 4 → stackWindow ram s .start ≤ stackPointer ram s + k
+  stack-word-from k h = omega (arith, stack-word k h, place-from (stackWindow ram s) k)
+
+  pub stack-word-below : (k : ℕ) → k < 4 → stackPointer ram s + k < stackWindow ram s .start + stackWindow ram s .size
+  stack-word-below k h = omega (arith, stack-word k h, place-below (stackWindow ram s) k stack-nonempty)
+
+  -- "The stack pointer moves on by 4, wrapping": it is a multiple of 4 again
+  pub stack-next-multiple : placeOf (stackWindow ram s) 4 % 4 ≡ 0
+  unfolding stackWindow
+  stack-next-multiple = entry-next (stackPointer ram s) (s .«stack_size») (f .multiple) (size-whole _ listed)
+
+  -- in the same block
+  pub stack-next-same : SameRun (aligned (placeOf (stackWindow ram s) 4) (s .«stack_size»)) (stackWindow ram s)
+  unfolding stackWindow
+  stack-next-same = entry-same (stackPointer ram s) (s .«stack_size») (f .multiple) (size-whole _ listed)
+
+  -- so the stack of a RAM that differs in the stack pointer's move alone, as far as the stack asks, is sound in the same block
+  pub stack-moved-same :
+      (after : List ℕ) → stackPointer after s ≡ placeOf (stackWindow ram s) 4 →
+      SameRun (stackWindow after s) (stackWindow ram s)
+  unfolding stackWindow
+  stack-moved-same after e = rw e stack-next-same
+
+  pub stack-moved :
+      (after : List ℕ) → length after ≡ length ram → stackPointer after s ≡ placeOf (stackWindow ram s) 4 →
+      StackSound after s
+  unfolding stackWindow
+  stack-moved after l e =
+      let k = stack-moved-same after e in
+      let m : stackPointer after s % 4 ≡ 0 = rw e stack-next-multiple in
+      let h = entry-room (stackPointer after s) (s .«stack_size») m (size-whole _ listed) in
+      record {
+        multiple = m;
+        pointer = omega (arith, h, k .start, k .size, f .inside, l);
+        inside = rw (k .start, k .size, l) (f .inside);
+        fixed = record { tables = rw (k .start, k .size) (f .fixed .tables); illegal = rw (k .start, k .size) (f .fixed .illegal) };
+      }

@@ -1,0 +1,150 @@
+-- What it tells that a cell is sound, as named facts and back again, and what follows for each place of its window.
+use Prim.Native.Nat.{ℕ, _+_, _-_, _%_, _≤_, _<_}
+use native.Mathlib.Omega.{arith}
+use mathlib.Core.Path.{_≡_, refl}
+use mathlib.Core.Bool.{true, false, not, _&&_, _||_}
+use lib.Dec.{ltb}
+use borrow.Author.Tests.{ltb-true, leb-true, eqb-true, lt-ltb, le-leb, eq-eqb, not-true}
+use Rattle.cells.specs.declared.cell.Scheme.{Scheme}
+use Rattle.cells.specs.declared.cell.Scheme.the-variants.{Single, Double, Circular}
+use Rattle.cells.specs.declared.cell.Cell.{Cell}
+use Rattle.cells.specs.declared.window.Window.{Window}
+use Rattle.cells.specs.Window.{placeOf, meets, meetsFixed, windowsMeet, fitsBelow}
+use Rattle.cells.specs.Cell.{windowOf, doubleFits, cellWindow, soundCell}
+use Rattle.cells.proofs.Flags.{and-left, and-right, or-left, or-right, or-neither}
+use Rattle.cells.proofs.Wrap.{place-from, place-below, SameRun}
+use Rattle.cells.proofs.Meets.{nothing-shared}
+use Rattle.cells.proofs.Sizes.{Sized, window-nonempty, window-kept}
+
+-- the window meets no fixed area
+pub record OffFixed (w : Window) : Type 0 where
+  pub tables : meets (w .start) (w .size) 0x100 0x148 ≡ false
+  pub illegal : meets (w .start) (w .size) 0x300 0x100 ≡ false
+
+pub fixed-off : (w : Window) → meetsFixed w ≡ false → OffFixed w
+unfolding meetsFixed
+fixed-off w e =
+    record {
+      tables = or-left (meets (w .start) (w .size) 0x100 0x148) (meets (w .start) (w .size) 0x300 0x100) e;
+      illegal = or-right (meets (w .start) (w .size) 0x100 0x148) (meets (w .start) (w .size) 0x300 0x100) e;
+    }
+
+pub off-fixed : (w : Window) → OffFixed w → meetsFixed w ≡ false
+unfolding meetsFixed
+off-fixed w f = or-neither _ _ (f .tables) (f .illegal)
+
+-- "a double pointer is a multiple of 32"
+pub double-multiple : (s : Scheme) (p : ℕ) → doubleFits s p ≡ true → s ≡ Double → p % 32 ≡ 0
+unfolding doubleFits
+double-multiple s p h e = eqb-true (p % 32) 0 (rw e at h)
+
+pub multiple-double : (s : Scheme) (p : ℕ) → (s ≡ Double → p % 32 ≡ 0) → doubleFits s p ≡ true
+unfolding doubleFits
+multiple-double Single p h = refl
+multiple-double Double p h = eq-eqb (p % 32) 0 (h refl)
+multiple-double (Circular n) p h = refl
+
+-- the sentence "A cell is sound if ..", fact by fact; `block` is the stack's window
+pub record CellSound (length : ℕ) (block : Window) (c : Cell) : Type 0 where
+  pub pointer : c .pointer < length
+  pub inside : cellWindow c .start + cellWindow c .size ≤ length
+  pub double : c .scheme ≡ Double → c .pointer % 32 ≡ 0
+  pub fixed : OffFixed (cellWindow c)
+  pub stack : windowsMeet (cellWindow c) block ≡ false
+
+module _ (length : ℕ) (block : Window) (c : Cell) where
+  pub sound-cell-facts : soundCell length block c ≡ true → CellSound length block c
+  unfolding soundCell
+  sound-cell-facts e =
+      let w = cellWindow c in
+      let in-ram = ltb (c .pointer) length && fitsBelow w length in
+      let fits = in-ram && doubleFits (c .scheme) (c .pointer) in
+      let apart : (meetsFixed w || windowsMeet w block) ≡ false = not-true _ (and-right fits (not (meetsFixed w || windowsMeet w block)) e) in
+      let a : fits ≡ true = and-left fits (not (meetsFixed w || windowsMeet w block)) e in
+      let b : in-ram ≡ true = and-left in-ram (doubleFits (c .scheme) (c .pointer)) a in
+      record {
+        pointer = ltb-true _ _ (and-left (ltb (c .pointer) length) (fitsBelow w length) b);
+        inside = leb-true _ _ (and-right (ltb (c .pointer) length) (fitsBelow w length) b);
+        double = double-multiple (c .scheme) (c .pointer) (and-right in-ram (doubleFits (c .scheme) (c .pointer)) a);
+        fixed = fixed-off w (or-left (meetsFixed w) (windowsMeet w block) apart);
+        stack = or-right (meetsFixed w) (windowsMeet w block) apart;
+      }
+
+  pub cell-facts-sound : CellSound length block c → soundCell length block c ≡ true
+  unfolding soundCell
+  cell-facts-sound f =
+      let w = cellWindow c in
+      rw (
+        lt-ltb (c .pointer) length (f .pointer),
+        le-leb (w .start + w .size) length (f .inside),
+        multiple-double (c .scheme) (c .pointer) (f .double),
+        off-fixed w (f .fixed),
+        f .stack,
+      )
+
+-- an address that is in RAM and in no fixed area
+pub record OrdinaryAddress (length x : ℕ) : Type 0 where
+  pub inside : x < length
+  pub tables : 0x100 ≤ x → x < 0x248 → ⊥
+  pub illegal : 0x300 ≤ x → x < 0x400 → ⊥
+
+pub ordinary-address :
+    (length : ℕ) (w : Window) → w .start + w .size ≤ length → OffFixed w → (x : ℕ) → w .start ≤ x →
+    x < w .start + w .size → OrdinaryAddress length x
+ordinary-address length w i f x l h =
+    record {
+      inside = omega arith;
+      tables = λ p q. nothing-shared (w .start) (w .size) 0x100 0x148 (f .tables) x l h p (omega arith);
+      illegal = λ p q. nothing-shared (w .start) (w .size) 0x300 0x100 (f .illegal) x l h p (omega arith);
+    }
+
+-- an ordinary address that is not in the stack's block
+pub record FreeAddress (length : ℕ) (block : Window) (x : ℕ) : Type 0 where
+  pub ordinary : OrdinaryAddress length x
+  pub stack : block .start ≤ x → x < block .start + block .size → ⊥
+
+module _ (length : ℕ) (block : Window) (c : Cell) (f : CellSound length block c) where
+  -- every address of a sound cell's window is free
+  pub sound-address :
+      (x : ℕ) → cellWindow c .start ≤ x → x < cellWindow c .start + cellWindow c .size →
+      FreeAddress length block x
+  sound-address x l h =
+      let w = cellWindow c in
+      record {
+        ordinary = ordinary-address length w (f .inside) (f .fixed) x l h;
+        stack = nothing-shared (w .start) (w .size) (block .start) (block .size) (f .stack) x l h;
+      }
+
+  -- so every place is
+  pub sound-place : Sized (c .scheme) → (k : ℕ) → FreeAddress length block (placeOf (cellWindow c) k)
+  sound-place z k =
+      sound-address (placeOf (cellWindow c) k) (place-from (cellWindow c) k)
+      (place-below (cellWindow c) k (window-nonempty (c .scheme) (c .pointer) z))
+
+  -- the stack's pointer may move in its block
+  pub sound-block : (other : Window) → SameRun other block → CellSound length other c
+  sound-block other e =
+      record {
+        pointer = f .pointer;
+        inside = f .inside;
+        double = f .double;
+        fixed = f .fixed;
+        stack = rw (e .start, e .size) (f .stack);
+      }
+
+  -- the cell stays sound where its pointer moves inside its window
+  pub sound-moved :
+      (d : Cell) → d .scheme ≡ c .scheme → (c .scheme ≡ Single → ⊥) → cellWindow c .start ≤ d .pointer →
+      d .pointer < cellWindow c .start + cellWindow c .size → (c .scheme ≡ Double → d .pointer % 32 ≡ 0) →
+      CellSound length block d
+  sound-moved d e n l h m =
+      let k : SameRun (windowOf (c .scheme) (d .pointer)) (cellWindow c) = window-kept (c .scheme) (c .pointer) (d .pointer) n l h in
+      let a : cellWindow d .start ≡ cellWindow c .start = rw e (k .start) in
+      let b : cellWindow d .size ≡ cellWindow c .size = rw e (k .size) in
+      record {
+        pointer = omega (arith, f .inside);
+        inside = rw (a, b) (f .inside);
+        double = λ s. m (cc);
+        fixed = record { tables = rw (a, b) (f .fixed .tables); illegal = rw (a, b) (f .fixed .illegal) };
+        stack = rw (a, b) (f .stack);
+      }
