@@ -1,0 +1,18 @@
+//! The remote terminal, one subject per file, the lower ones first.
+
+pub mod cells;
+pub mod message;
+pub mod planted;
+pub mod records;
+pub mod refusal;
+pub mod settings;
+pub mod tables;
+pub mod trace;
+pub mod words;
+
+pub use cells::check_area;
+pub use message::{message_from_bytes, message_from_record, Answer, Remembered};
+pub use planted::Planted;
+pub use records::{read_record, write_record, Record};
+pub use settings::Settings;
+pub use trace::{stream_trace, trace_output};

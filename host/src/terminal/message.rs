@@ -1,0 +1,412 @@
+//! What one message does to RAM, reply and remembered state.
+
+use std::ops::Range;
+
+use super::cells::{
+    check_ram, lookup_place, stack_pointer_place, Cell, Kind, Scheme, Stack, DESCRIPTOR_WORDS,
+    RAM_WORDS,
+};
+use super::planted::Planted;
+use super::records::{
+    read_record, Record, FLAG_BUS_B, FLAG_INVALID_WORD, FLAG_WRONG_SYNC, RECORD_WORDS,
+};
+use super::refusal;
+use super::settings::Settings;
+use super::tables::{is_illegal, is_marked_busy};
+use super::words::{bit, Command};
+
+/// A status word and the most data words that can follow it.
+pub const REPLY_WORDS: usize = 1 + RECORD_WORDS;
+
+/// What the terminal remembers of the last accepted message; zero at first.
+#[derive(Clone, Copy, Debug, Default, PartialEq, Eq)]
+pub struct Remembered {
+    pub command: u16,
+    pub status: u16,
+}
+
+/// The answer to one message; a refusal has its number and all else zero.
+#[derive(Clone, Copy, Debug, Default, PartialEq, Eq)]
+pub struct Answer {
+    pub number: u16,
+    pub block_status: u16,
+    pub cell: u16,
+    pub pointer_before: u16,
+    pub pointer_after: u16,
+    /// Worked out for every accepted message, sent or not.
+    pub status: u16,
+    pub sent: bool,
+    pub data_words: u16,
+    pub interrupt: u16,
+}
+
+/// Carries out the message of an 80-byte record.
+pub fn message_from_bytes(
+    ram: &mut [u16],
+    reply: &mut [u16],
+    settings: &Settings,
+    remembered: Remembered,
+    bytes: &[u8],
+) -> (Answer, Remembered) {
+    from_bytes::<NONE>(ram, reply, settings, remembered, bytes)
+}
+
+/// Carries out the message of a record value.
+pub fn message_from_record(
+    ram: &mut [u16],
+    reply: &mut [u16],
+    settings: &Settings,
+    remembered: Remembered,
+    record: &Record,
+) -> (Answer, Remembered) {
+    let outcome = check_lent(ram, reply, settings)
+        .and_then(|()| {
+            if record.keeps_layout() {
+                Ok(())
+            } else {
+                Err(refusal::RECORD_LAYOUT)
+            }
+        })
+        .and_then(|()| perform::<NONE>(ram, reply, settings, record));
+    settle(outcome, remembered)
+}
+
+/// [`message_from_bytes`] of a terminal with an error planted in it.
+pub fn planted_message(
+    planted: Planted,
+    ram: &mut [u16],
+    reply: &mut [u16],
+    settings: &Settings,
+    remembered: Remembered,
+    bytes: &[u8],
+) -> (Answer, Remembered) {
+    let run = match planted {
+        Planted::None => from_bytes::<NONE>,
+        Planted::PointerAfterInDescriptor => from_bytes::<POINTER_AFTER_IN_DESCRIPTOR>,
+        Planted::RolloverWhenKeptBack => from_bytes::<ROLLOVER_WHEN_KEPT_BACK>,
+        Planted::WrapByWordCount => from_bytes::<WRAP_BY_WORD_COUNT>,
+        Planted::FaultyStoresWhenDisabled => from_bytes::<FAULTY_STORES_WHEN_DISABLED>,
+        Planted::ZeroCountIsNone => from_bytes::<ZERO_COUNT_IS_NONE>,
+    };
+    run(ram, reply, settings, remembered, bytes)
+}
+
+// The values of the constant parameter `PLANTED` below.
+const NONE: u8 = Planted::None as u8;
+const POINTER_AFTER_IN_DESCRIPTOR: u8 = Planted::PointerAfterInDescriptor as u8;
+const ROLLOVER_WHEN_KEPT_BACK: u8 = Planted::RolloverWhenKeptBack as u8;
+const WRAP_BY_WORD_COUNT: u8 = Planted::WrapByWordCount as u8;
+const FAULTY_STORES_WHEN_DISABLED: u8 = Planted::FaultyStoresWhenDisabled as u8;
+const ZERO_COUNT_IS_NONE: u8 = Planted::ZeroCountIsNone as u8;
+
+fn from_bytes<const PLANTED: u8>(
+    ram: &mut [u16],
+    reply: &mut [u16],
+    settings: &Settings,
+    remembered: Remembered,
+    bytes: &[u8],
+) -> (Answer, Remembered) {
+    let outcome = check_lent(ram, reply, settings)
+        .and_then(|()| read_record(bytes))
+        .and_then(|record| perform::<PLANTED>(ram, reply, settings, &record));
+    settle(outcome, remembered)
+}
+
+/// Tests 1 to 3, about what the caller lends.
+fn check_lent(ram: &[u16], reply: &[u16], settings: &Settings) -> Result<(), u16> {
+    check_ram(ram)?;
+    if reply.len() < REPLY_WORDS {
+        return Err(refusal::REPLY_LENGTH);
+    }
+    settings.check()
+}
+
+fn settle(
+    outcome: Result<(Answer, Remembered), u16>,
+    remembered: Remembered,
+) -> (Answer, Remembered) {
+    outcome.unwrap_or_else(|number| {
+        let refused = Answer {
+            number,
+            ..Answer::default()
+        };
+        (refused, remembered)
+    })
+}
+
+/// Tests 6 to 9, and then the message itself.
+fn perform<const PLANTED: u8>(
+    ram: &mut [u16],
+    reply: &mut [u16],
+    settings: &Settings,
+    record: &Record,
+) -> Result<(Answer, Remembered), u16> {
+    let command = Command(record.command);
+    let (stack, cell) = locate(ram, settings, command)?;
+    let judged = Judged::new::<PLANTED>(ram, settings, record);
+    let status = status_word(&judged, settings);
+    let sent = judged.is_valid() && !command.is_broadcast();
+    if sent {
+        reply[0] = status;
+    }
+
+    let moved = move_words::<PLANTED>(ram, reply, settings, record, &judged, &cell);
+    let (pointer_after, rollover) =
+        next_pointer::<PLANTED>(&cell, moved, judged.is_valid(), settings);
+    if pointer_after != cell.pointer {
+        ram[lookup_place(settings, cell.kind, cell.subaddress)] = pointer_after;
+    }
+    let block_status = block_status(&judged, record, rollover);
+    let pointer_told = if PLANTED == POINTER_AFTER_IN_DESCRIPTOR {
+        pointer_after
+    } else {
+        cell.pointer
+    };
+    let descriptor = [block_status, record.tag, pointer_told, record.command];
+    let stack_wrapped = push_descriptor(ram, settings, &stack, &descriptor);
+
+    let answer = Answer {
+        number: 0,
+        block_status,
+        cell: cell.number(),
+        pointer_before: cell.pointer,
+        pointer_after,
+        status,
+        sent,
+        data_words: if command.is_transmit() { moved } else { 0 },
+        interrupt: interrupt_word(&judged, &cell, rollover, stack_wrapped),
+    };
+    let remembered = Remembered {
+        command: record.command,
+        status,
+    };
+    Ok((answer, remembered))
+}
+
+/// Tests 6 to 9: the stack and the cell that a message would use.
+fn locate(ram: &[u16], settings: &Settings, command: Command) -> Result<(Stack, Cell), u16> {
+    check_command(command, settings)?;
+    let stack = Stack::read(ram, settings);
+    if !stack.is_sound(ram.len()) {
+        return Err(refusal::STACK);
+    }
+    let kind = cell_kind(command, settings);
+    let cell = Cell::read(ram, settings, kind, command.subaddress());
+    if !cell.is_sound(ram.len(), &stack) {
+        return Err(refusal::CELL);
+    }
+    Ok((stack, cell))
+}
+
+/// Tests 6 and 7: whether the command is one for this terminal's cells.
+fn check_command(command: Command, settings: &Settings) -> Result<(), u16> {
+    if command.address() != settings.address && !command.is_broadcast() {
+        return Err(refusal::ADDRESS);
+    }
+    match command.subaddress() {
+        0 | 31 => Err(refusal::SUBADDRESS),
+        _ => Ok(()),
+    }
+}
+
+fn cell_kind(command: Command, settings: &Settings) -> Kind {
+    if command.is_transmit() {
+        Kind::Transmit
+    } else if command.is_broadcast() && settings.separate_broadcast {
+        Kind::Broadcast
+    } else {
+        Kind::Receive
+    }
+}
+
+/// What is known of a message before any word moves (rules 1 and 2).
+struct Judged {
+    command: Command,
+    /// Data words that the command asks for.
+    word_count: u16,
+    count_fault: bool,
+    sync_fault: bool,
+    invalid_word: bool,
+    contents_fault: bool,
+    illegal: bool,
+    busy: bool,
+}
+
+impl Judged {
+    fn new<const PLANTED: u8>(ram: &[u16], settings: &Settings, record: &Record) -> Judged {
+        let command = Command(record.command);
+        let word_count = if PLANTED == ZERO_COUNT_IS_NONE {
+            command.count_field()
+        } else {
+            command.word_count()
+        };
+        let expected = if command.is_transmit() { 0 } else { word_count };
+        let sync_fault = record.has_flag(FLAG_WRONG_SYNC);
+        let invalid_word = record.has_flag(FLAG_INVALID_WORD);
+        Judged {
+            command,
+            word_count,
+            // A flagged fault cuts the count short, so it says nothing more.
+            count_fault: record.count != expected && !sync_fault && !invalid_word,
+            sync_fault,
+            invalid_word,
+            contents_fault: command.is_broadcast() && command.is_transmit(),
+            illegal: is_illegal(ram, command),
+            busy: settings.busy_always || is_marked_busy(ram, command),
+        }
+    }
+
+    fn is_valid(&self) -> bool {
+        !(self.count_fault || self.sync_fault || self.invalid_word || self.contents_fault)
+    }
+
+    /// Rule 3.
+    fn words_to_store<const PLANTED: u8>(&self, settings: &Settings, record: &Record) -> u16 {
+        let disabled = (self.illegal && settings.illegal_receive_disable)
+            || (self.busy && settings.busy_receive_disable);
+        let let_through = PLANTED == FAULTY_STORES_WHEN_DISABLED && !self.is_valid();
+        if disabled && !let_through {
+            0
+        } else {
+            record.count.min(self.word_count)
+        }
+    }
+
+    /// Rule 4.
+    fn words_to_send(&self) -> u16 {
+        if self.is_valid() && !self.illegal && !self.busy {
+            self.word_count
+        } else {
+            0
+        }
+    }
+}
+
+/// Stores or sends the message's data words; returns how many.
+fn move_words<const PLANTED: u8>(
+    ram: &mut [u16],
+    reply: &mut [u16],
+    settings: &Settings,
+    record: &Record,
+    judged: &Judged,
+    cell: &Cell,
+) -> u16 {
+    if judged.command.is_transmit() {
+        let count = judged.words_to_send();
+        send(ram, reply, runs::<PLANTED>(cell, count));
+        count
+    } else {
+        let count = judged.words_to_store::<PLANTED>(settings, record);
+        store(ram, record, runs::<PLANTED>(cell, count));
+        count
+    }
+}
+
+/// The places of `count` words from the cell's pointer on: the words up to the
+/// window's end, then those that wrapped to its start.
+///
+/// A message has 32 words at most, so only a circular window is ever passed.
+fn runs<const PLANTED: u8>(cell: &Cell, count: u16) -> [Range<usize>; 2] {
+    let window = if PLANTED == WRAP_BY_WORD_COUNT {
+        0..RAM_WORDS
+    } else {
+        cell.window()
+    };
+    let pointer = usize::from(cell.pointer);
+    let count = usize::from(count);
+    let before_end = count.min(window.end - pointer);
+    [
+        pointer..pointer + before_end,
+        window.start..window.start + (count - before_end),
+    ]
+}
+
+fn store(ram: &mut [u16], record: &Record, [first, second]: [Range<usize>; 2]) {
+    let (before_end, wrapped) = record.words.split_at(first.len());
+    let wrapped = &wrapped[..second.len()];
+    ram[first].copy_from_slice(before_end);
+    ram[second].copy_from_slice(wrapped);
+}
+
+fn send(ram: &[u16], reply: &mut [u16], [first, second]: [Range<usize>; 2]) {
+    let (before_end, wrapped) = reply[1..].split_at_mut(first.len());
+    let wrapped = &mut wrapped[..second.len()];
+    before_end.copy_from_slice(&ram[first]);
+    wrapped.copy_from_slice(&ram[second]);
+}
+
+/// Rule 5: the pointer after `moved` words, and whether it rolled over.
+fn next_pointer<const PLANTED: u8>(
+    cell: &Cell,
+    moved: u16,
+    valid: bool,
+    settings: &Settings,
+) -> (u16, bool) {
+    match cell.scheme {
+        Scheme::Single => (cell.pointer, false),
+        Scheme::Double if valid && moved > 0 => (cell.pointer ^ 32, false),
+        Scheme::Double => (cell.pointer, false),
+        Scheme::Circular(size) => {
+            let place_in_buffer = size - 1;
+            let offset = (cell.pointer & place_in_buffer) + moved;
+            let end_reached = offset >= size;
+            if valid || !settings.overwrite_invalid {
+                let start = cell.pointer & !place_in_buffer;
+                (start | (offset & place_in_buffer), end_reached)
+            } else {
+                let rollover = PLANTED == ROLLOVER_WHEN_KEPT_BACK && end_reached;
+                (cell.pointer, rollover)
+            }
+        }
+    }
+}
+
+/// Rule 6; returns whether the stack wrapped.
+fn push_descriptor(
+    ram: &mut [u16],
+    settings: &Settings,
+    stack: &Stack,
+    descriptor: &[u16; DESCRIPTOR_WORDS],
+) -> bool {
+    ram[stack.descriptor()].copy_from_slice(descriptor);
+    let (pointer_after, wrapped) = stack.next();
+    ram[stack_pointer_place(settings)] = pointer_after;
+    wrapped
+}
+
+/// Rule 7.
+fn block_status(judged: &Judged, record: &Record, rollover: bool) -> u16 {
+    let fault = !judged.is_valid();
+    bit(15, true)
+        | bit(13, record.has_flag(FLAG_BUS_B))
+        | bit(12, fault)
+        | bit(10, fault)
+        | bit(7, rollover)
+        | bit(6, judged.illegal)
+        | bit(5, judged.count_fault)
+        | bit(4, judged.sync_fault)
+        | bit(3, judged.invalid_word)
+        | bit(0, judged.contents_fault)
+}
+
+/// Rule 8.
+fn status_word(judged: &Judged, settings: &Settings) -> u16 {
+    (settings.address << 11)
+        | bit(10, !judged.is_valid() || judged.illegal)
+        | bit(8, settings.service_request)
+        | bit(4, judged.command.is_broadcast())
+        | bit(3, judged.busy)
+        | bit(2, settings.subsystem_flag)
+        | bit(0, settings.terminal_flag)
+}
+
+/// Rule 9.
+fn interrupt_word(judged: &Judged, cell: &Cell, rollover: bool, stack_wrapped: bool) -> u16 {
+    bit(14, judged.illegal)
+        | bit(10, rollover && cell.circular_interrupt)
+        | bit(6, stack_wrapped)
+        | bit(4, !judged.is_valid())
+        | bit(2, cell.message_interrupt)
+        | bit(1, true)
+        | bit(0, true)
+}

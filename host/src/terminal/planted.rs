@@ -1,0 +1,33 @@
+//! Errors often seen in student builds, to be planted on purpose.
+//!
+//! A comparison of two terminals is worth something only if it can fail; a
+//! terminal with one of these errors must be told from a good one. The message
+//! code takes the error as a constant, so the good terminal pays nothing.
+
+#[derive(Clone, Copy, Debug, Default, PartialEq, Eq)]
+#[repr(u8)]
+pub enum Planted {
+    #[default]
+    None,
+    /// The descriptor holds the pointer after the message, not before.
+    PointerAfterInDescriptor,
+    /// Rollover is set even where a fault kept the pointer back.
+    RolloverWhenKeptBack,
+    /// The place in the message is wrapped by the word count, and the place in
+    /// the buffer not at all, so words run on into the next window.
+    WrapByWordCount,
+    /// The two receive-disable settings are heeded for valid messages only.
+    FaultyStoresWhenDisabled,
+    /// Count field 0 asks for no words.
+    ZeroCountIsNone,
+}
+
+impl Planted {
+    pub const ERRORS: [Planted; 5] = [
+        Planted::PointerAfterInDescriptor,
+        Planted::RolloverWhenKeptBack,
+        Planted::WrapByWordCount,
+        Planted::FaultyStoresWhenDisabled,
+        Planted::ZeroCountIsNone,
+    ];
+}

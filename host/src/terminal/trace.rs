@@ -1,0 +1,215 @@
+//! The trace program: a RAM image and records in, lines of text out.
+
+use std::io::{self, Read, Write};
+
+use super::cells::RAM_WORDS;
+use super::message::{planted_message, Answer, Remembered, REPLY_WORDS};
+use super::planted::Planted;
+use super::records::RECORD_BYTES;
+use super::settings::Settings;
+
+/// The image at the front of a trace.
+pub const IMAGE_BYTES: usize = 2 * RAM_WORDS;
+
+/// Records read at a time when streaming.
+const BATCH_RECORDS: usize = 1024;
+
+/// A caller's trace and a place in it.
+#[derive(Clone, Copy, Debug)]
+pub struct TraceView<'a> {
+    pub bytes: &'a [u8],
+    pub place: usize,
+}
+
+impl<'a> TraceView<'a> {
+    /// Hands on the next 80 bytes; with fewer left, none, and the place stays.
+    pub fn next_record(&mut self) -> Option<&'a [u8]> {
+        let record = self.rest().get(..RECORD_BYTES)?;
+        self.place += RECORD_BYTES;
+        Some(record)
+    }
+
+    /// The bytes from the place on; none if the place is past the end.
+    pub fn rest(&self) -> &'a [u8] {
+        self.bytes.get(self.place..).unwrap_or_default()
+    }
+}
+
+/// The whole output of the trace program.
+pub fn trace_output(input: &[u8]) -> Vec<u8> {
+    planted_trace_output(Planted::None, input)
+}
+
+/// [`trace_output`] of a terminal with an error planted in it.
+pub fn planted_trace_output(planted: Planted, input: &[u8]) -> Vec<u8> {
+    let mut output = Vec::new();
+    let Some(image) = input.get(..IMAGE_BYTES) else {
+        push_line(&mut output, b"image ", input.len() as u64);
+        return output;
+    };
+    let mut run = Run::new(planted, image);
+    let mut records = TraceView {
+        bytes: input,
+        place: IMAGE_BYTES,
+    };
+    while let Some(record) = records.next_record() {
+        run.message(record, &mut output);
+    }
+    run.end(records.rest().len(), &mut output);
+    output
+}
+
+/// The trace program for input of any length, in bounded memory.
+///
+/// Reads and writes in large pieces: neither side needs a buffer of its own.
+pub fn stream_trace(input: impl Read, output: impl Write) -> io::Result<()> {
+    stream_planted_trace(Planted::None, input, output)
+}
+
+/// [`stream_trace`] of a terminal with an error planted in it.
+pub fn stream_planted_trace(
+    planted: Planted,
+    mut input: impl Read,
+    mut output: impl Write,
+) -> io::Result<()> {
+    let mut text = Vec::new();
+    let mut image = vec![0; IMAGE_BYTES];
+    let image_read = fill(&mut input, &mut image)?;
+    if image_read < IMAGE_BYTES {
+        push_line(&mut text, b"image ", image_read as u64);
+        output.write_all(&text)?;
+        return output.flush();
+    }
+    let mut run = Run::new(planted, &image);
+    let mut batch = vec![0; BATCH_RECORDS * RECORD_BYTES];
+    loop {
+        let batch_read = fill(&mut input, &mut batch)?;
+        let mut records = TraceView {
+            bytes: &batch[..batch_read],
+            place: 0,
+        };
+        while let Some(record) = records.next_record() {
+            run.message(record, &mut text);
+        }
+        // Only the end of the input leaves a batch short.
+        let at_end = batch_read < batch.len();
+        if at_end {
+            run.end(records.rest().len(), &mut text);
+        }
+        output.write_all(&text)?;
+        if at_end {
+            return output.flush();
+        }
+        text.clear();
+    }
+}
+
+/// Reads until the buffer is full or the input ends; returns the bytes read.
+fn fill(input: &mut impl Read, buffer: &mut [u8]) -> io::Result<usize> {
+    let mut filled = 0;
+    while filled < buffer.len() {
+        match input.read(&mut buffer[filled..]) {
+            Ok(0) => break,
+            Ok(read) => filled += read,
+            Err(error) if error.kind() == io::ErrorKind::Interrupted => {}
+            Err(error) => return Err(error),
+        }
+    }
+    Ok(filled)
+}
+
+/// The terminal in the middle of a trace.
+struct Run {
+    planted: Planted,
+    ram: Vec<u16>,
+    reply: [u16; REPLY_WORDS],
+    remembered: Remembered,
+    /// Whole records met so far, refused ones too.
+    records: u64,
+}
+
+impl Run {
+    fn new(planted: Planted, image: &[u8]) -> Run {
+        let words = image.chunks_exact(2);
+        Run {
+            planted,
+            ram: words.map(|b| u16::from_be_bytes([b[0], b[1]])).collect(),
+            reply: [0; REPLY_WORDS],
+            remembered: Remembered::default(),
+            records: 0,
+        }
+    }
+
+    fn message(&mut self, record: &[u8], output: &mut Vec<u8>) {
+        let (answer, remembered) = planted_message(
+            self.planted,
+            &mut self.ram,
+            &mut self.reply,
+            &Settings::TRACE,
+            self.remembered,
+            record,
+        );
+        self.remembered = remembered;
+        self.records += 1;
+        push_answer(output, self.records, &answer);
+    }
+
+    fn end(&self, tail: usize, output: &mut Vec<u8>) {
+        if tail > 0 {
+            push_line(output, b"tail ", tail as u64);
+        }
+        push_line(output, b"end ", self.records);
+    }
+}
+
+fn push_answer(output: &mut Vec<u8>, record: u64, answer: &Answer) {
+    push_decimal(output, record);
+    output.push(b' ');
+    push_decimal(output, answer.number.into());
+    if answer.number == 0 {
+        push_columns(output, answer);
+    }
+    output.push(b'\n');
+}
+
+/// The columns that only an accepted message has.
+fn push_columns(output: &mut Vec<u8>, answer: &Answer) {
+    push_hex(output, answer.block_status);
+    push_hex(output, answer.pointer_before);
+    push_hex(output, answer.pointer_after);
+    if answer.sent {
+        push_hex(output, answer.status);
+    } else {
+        output.extend_from_slice(b" none");
+    }
+    output.push(b' ');
+    push_decimal(output, answer.data_words.into());
+    push_hex(output, answer.interrupt);
+}
+
+fn push_line(output: &mut Vec<u8>, name: &[u8], number: u64) {
+    output.extend_from_slice(name);
+    push_decimal(output, number);
+    output.push(b'\n');
+}
+
+/// A space and four upper-case hexadecimal digits.
+fn push_hex(output: &mut Vec<u8>, word: u16) {
+    const DIGITS: &[u8; 16] = b"0123456789ABCDEF";
+    let digit = |shift: u32| DIGITS[usize::from(word >> shift & 15)];
+    output.extend_from_slice(&[b' ', digit(12), digit(8), digit(4), digit(0)]);
+}
+
+fn push_decimal(output: &mut Vec<u8>, mut number: u64) {
+    let mut digits = [0; 20];
+    let mut start = digits.len();
+    loop {
+        start -= 1;
+        digits[start] = b'0' + (number % 10) as u8;
+        number /= 10;
+        if number == 0 {
+            break;
+        }
+    }
+    output.extend_from_slice(&digits[start..]);
+}

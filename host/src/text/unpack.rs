@@ -1,0 +1,106 @@
+//! From bytes to text.
+
+use std::fmt::{self, Write};
+
+use crate::terminal::read_record;
+use crate::terminal::records::{
+    Record, FLAG_BUS_B, FLAG_INVALID_WORD, FLAG_WRONG_SYNC, RECORD_BYTES, TOO_MANY,
+};
+use crate::terminal::trace::IMAGE_BYTES;
+
+const WORDS_IN_LINE: usize = 8;
+
+/// The text of a trace input, whatever its bytes.
+pub fn unpack(binary: &[u8]) -> String {
+    let mut text = String::new();
+    write_trace(&mut text, binary).expect("writing to a string never fails");
+    text
+}
+
+fn write_trace(text: &mut String, binary: &[u8]) -> fmt::Result {
+    let (image, records) = binary.split_at(binary.len().min(IMAGE_BYTES));
+    if image.len() < IMAGE_BYTES {
+        writeln!(text, "image {}", image.len())?;
+    }
+    write_image(text, image)?;
+    for bytes in records.chunks(RECORD_BYTES) {
+        match read_record(bytes) {
+            Ok(record) => write_message(text, &record)?,
+            Err(_) => write_raw(text, bytes)?,
+        }
+    }
+    Ok(())
+}
+
+/// One line for every eight words that are not all zero.
+fn write_image(text: &mut String, image: &[u8]) -> fmt::Result {
+    for (row, bytes) in image.chunks(2 * WORDS_IN_LINE).enumerate() {
+        let mut words = [0; WORDS_IN_LINE];
+        for (word, pair) in words.iter_mut().zip(bytes.chunks(2)) {
+            // An image may end in the middle of a word.
+            let low = pair.get(1).copied().unwrap_or(0);
+            *word = u16::from_be_bytes([pair[0], low]);
+        }
+        write_row(text, row * WORDS_IN_LINE, &words)?;
+    }
+    Ok(())
+}
+
+fn write_row(text: &mut String, address: usize, words: &[u16]) -> fmt::Result {
+    let not_zero = |&word: &u16| word != 0;
+    let Some(first) = words.iter().position(not_zero) else {
+        return Ok(());
+    };
+    let last = words.iter().rposition(not_zero).unwrap_or(first);
+    write!(text, "ram {:04X}", address + first)?;
+    write_words(text, &words[first..=last])?;
+    writeln!(text)
+}
+
+fn write_message(text: &mut String, record: &Record) -> fmt::Result {
+    let bus = if record.has_flag(FLAG_BUS_B) {
+        'B'
+    } else {
+        'A'
+    };
+    write!(
+        text,
+        "message {:04X} bus {bus} tag {:04X}",
+        record.command, record.tag
+    )?;
+    if record.has_flag(FLAG_WRONG_SYNC | FLAG_INVALID_WORD) {
+        text.push_str(" flags");
+    }
+    if record.has_flag(FLAG_WRONG_SYNC) {
+        text.push_str(" sync");
+    }
+    if record.has_flag(FLAG_INVALID_WORD) {
+        text.push_str(" invalid");
+    }
+    if record.count == TOO_MANY {
+        write!(text, " count {TOO_MANY}")?;
+    }
+    let words = &record.words[..record.words_held()];
+    if !words.is_empty() {
+        text.push_str(" words");
+        write_words(text, words)?;
+    }
+    writeln!(text)
+}
+
+fn write_words(text: &mut String, words: &[u16]) -> fmt::Result {
+    words
+        .iter()
+        .try_for_each(|word| write!(text, " {word:04X}"))
+}
+
+fn write_raw(text: &mut String, bytes: &[u8]) -> fmt::Result {
+    text.push_str("raw");
+    for pair in bytes.chunks(2) {
+        text.push(' ');
+        for byte in pair {
+            write!(text, "{byte:02X}")?;
+        }
+    }
+    writeln!(text)
+}

@@ -1,0 +1,12 @@
+//! Tests of the whole library, one file per subject.
+
+mod area;
+mod helpers;
+mod makers;
+mod message;
+mod planted;
+mod programs;
+mod records;
+mod refusals;
+mod text;
+mod trace;

@@ -1,0 +1,364 @@
+//! Traces as text: the lines, their errors, and that nothing is lost.
+
+use bench_side::terminal::records::{FLAG_BUS_B, FLAG_INVALID_WORD, FLAG_WRONG_SYNC};
+use bench_side::terminal::{trace_output, write_record, Record};
+use bench_side::text::{pack, unpack};
+
+use crate::helpers::{heard, record, Random};
+use crate::trace::{image, EXAMPLE_OUTPUT};
+
+const EXAMPLE: &str = "\
+# The example of the scope.
+ram 0143 047E
+ram 01A3 0120   # circular, 128 words, with interrupt
+ram 0163 0500
+
+message 2864 bus A tag 0001 words 1111 2222 3333 4444
+message 3064 bus A tag 0002 words 1111 2222 3333 4444
+message 2C62 bus A tag 0003
+";
+
+fn packed(text: &str) -> Vec<u8> {
+    pack(text.as_bytes()).unwrap_or_else(|error| panic!("{error}"))
+}
+
+/// The one record that a line packs to.
+fn packed_record(line: &str) -> Vec<u8> {
+    packed(line)[8192..].to_vec()
+}
+
+fn error(text: &str) -> String {
+    pack(text.as_bytes()).unwrap_err().to_string()
+}
+
+fn assert_survives(binary: &[u8]) {
+    let text = unpack(binary);
+    assert_eq!(pack(text.as_bytes()).as_deref(), Ok(binary), "{text}");
+}
+
+#[test]
+fn the_example() {
+    let output = trace_output(&packed(EXAMPLE));
+    assert_eq!(String::from_utf8(output).unwrap(), EXAMPLE_OUTPUT);
+}
+
+#[test]
+fn unpacking_shows_the_same_lines() {
+    let expected = "\
+ram 0143 047E
+ram 0163 0500
+ram 01A3 0120
+message 2864 bus A tag 0001 words 1111 2222 3333 4444
+message 3064 bus A tag 0002 words 1111 2222 3333 4444
+message 2C62 bus A tag 0003
+";
+    assert_eq!(unpack(&packed(EXAMPLE)), expected);
+    assert_eq!(packed(expected), packed(EXAMPLE));
+}
+
+#[test]
+fn an_empty_text_is_an_image_of_zeros() {
+    assert_eq!(packed(""), vec![0; 8192]);
+    assert_eq!(packed("\n  # nothing\n\r\n"), vec![0; 8192]);
+    assert_eq!(unpack(&[0; 8192]), "");
+}
+
+#[test]
+fn ram_lines() {
+    let words = [(0x0000, 1), (0x0FFE, 0xABCD), (0x0FFF, 0xEF)];
+    assert_eq!(packed("ram 0 1\nram 0FFE abcd ef"), image(&words));
+    let text = "ram 0400 1111 2222\nram 0401 3333";
+    assert_eq!(packed(text), image(&[(0x0400, 0x1111), (0x0401, 0x3333)]));
+}
+
+#[test]
+fn eight_words_of_ram_to_a_line() {
+    let words: Vec<(usize, u16)> = (0x0406..0x0412).map(|a| (a, 0x1000)).collect();
+    let expected = "\
+ram 0406 1000 1000
+ram 0408 1000 1000 1000 1000 1000 1000 1000 1000
+ram 0410 1000 1000
+";
+    assert_eq!(unpack(&image(&words)), expected);
+    let gap = image(&[(0x0401, 1), (0x0403, 2)]);
+    assert_eq!(unpack(&gap), "ram 0401 0001 0000 0002\n");
+}
+
+#[test]
+fn message_lines() {
+    let words = [0x1111, 0x0022];
+    for (line, record) in [
+        ("message 2864", Record::default()),
+        ("message 2864 tag 12", record(0, &[])),
+        ("message 2864 words 1111 22", record(0, &words)),
+        (
+            "message 2864 bus B flags sync words 1111 22",
+            Record {
+                flags: FLAG_BUS_B | FLAG_WRONG_SYNC,
+                ..record(0, &words)
+            },
+        ),
+        (
+            "message 2864 words 1111 22 flags invalid sync",
+            Record {
+                flags: FLAG_INVALID_WORD | FLAG_WRONG_SYNC,
+                ..record(0, &words)
+            },
+        ),
+        (
+            "message 2864 count 5 words 1111 22",
+            Record {
+                count: 5,
+                ..record(0, &words)
+            },
+        ),
+        ("message 2864 words 1111 22 0 0 count 2", record(0, &words)),
+        (
+            "message 2864 count 33",
+            Record {
+                count: 33,
+                ..Record::default()
+            },
+        ),
+    ] {
+        let tag = if line.contains("tag") { 0x0012 } else { 0 };
+        let expected = Record {
+            command: 0x2864,
+            tag,
+            ..record
+        };
+        let bytes = write_record(&expected).unwrap();
+        assert_eq!(packed_record(line), bytes, "{line}");
+    }
+}
+
+#[test]
+fn unpacked_messages() {
+    let unpacked = |record: &Record| {
+        let bytes = write_record(record).unwrap();
+        unpack(&[&[0; 8192], &bytes[..]].concat())
+    };
+    let both = FLAG_WRONG_SYNC | FLAG_INVALID_WORD;
+    assert_eq!(
+        unpacked(&heard(0x2864, 1, both | FLAG_BUS_B)),
+        "message 2864 bus B tag 7A60 flags sync invalid words A000\n"
+    );
+    assert_eq!(
+        unpacked(&record(0x2864, &[5, 0])),
+        "message 2864 bus A tag 7A60 words 0005 0000\n"
+    );
+    let too_many = unpacked(&heard(0x2860, 33, 0));
+    assert!(too_many.starts_with("message 2860 bus A tag 7A60 count 33 words A000"));
+    assert!(too_many.ends_with(" A01F\n"));
+}
+
+#[test]
+fn raw_lines() {
+    assert_eq!(packed_record("raw 01 0203 aB"), [1, 2, 3, 0xAB]);
+    let damaged = format!("raw {}", "FF".repeat(80));
+    let text = format!("{damaged}\nmessage 2864\nraw 00");
+    let bytes = packed_record(&text);
+    assert_eq!(bytes[..80], [0xFF; 80]);
+    assert_eq!(bytes[80..82], [0x28, 0x64]);
+    assert_eq!(bytes.len(), 161);
+    assert_eq!(
+        unpack(&[&[0; 8192], &[0x28, 0x64, 0x01][..]].concat()),
+        "raw 2864 01\n"
+    );
+}
+
+#[test]
+fn short_images() {
+    assert_eq!(packed("image 0"), []);
+    assert_eq!(
+        packed("image 5\nram 0 1111 2222 3300"),
+        [0x11, 0x11, 0x22, 0x22, 0x33]
+    );
+    assert_eq!(packed("image 8191").len(), 8191);
+    assert_eq!(unpack(&[]), "image 0\n");
+    assert_eq!(
+        unpack(&[0, 0, 0x22, 0x22, 0x33]),
+        "image 5\nram 0001 2222 3300\n"
+    );
+}
+
+#[test]
+fn errors_name_the_line() {
+    assert_eq!(
+        error("ram 0143 047E\n# fine\nramm 0163 0500"),
+        "line 3: found \"ramm\", expected image, ram, message or raw"
+    );
+    let not_text = pack(b"ram 0143 047E\nram \xFF").unwrap_err();
+    assert_eq!(not_text.line, 2);
+    assert_eq!(not_text.found, "bytes that are not text");
+}
+
+#[test]
+fn errors_say_what_was_found_and_expected() {
+    let raw_81 = format!("raw {}", "00".repeat(81));
+    let words_33 = format!("message 2860 words{}", " 1".repeat(33));
+    for (text, message) in [
+        ("ram", "found the end of the line, expected an address"),
+        ("ram 0143", "found the end of the line, expected a RAM word"),
+        (
+            "ram 143 047E0",
+            "found \"047E0\", expected a RAM word of 1 to 4",
+        ),
+        ("ram 0143 +12", "found \"+12\", expected a RAM word"),
+        ("ram 0x143 1", "found \"0x143\", expected an address"),
+        (
+            "ram 1000 1",
+            "found address 1000, expected an address up to 0FFF",
+        ),
+        ("ram 0FFF 1 2", "found address 1000"),
+        (
+            "message",
+            "found the end of the line, expected a command word",
+        ),
+        ("message 28G4", "found \"28G4\", expected a command word"),
+        (
+            "message 2864 1111",
+            "found \"1111\", expected bus, tag, flags, count or words",
+        ),
+        ("message 2864 bus C", "found \"C\", expected bus A or B"),
+        (
+            "message 2864 bus",
+            "found the end of the line, expected bus A or B",
+        ),
+        (
+            "message 2864 tag",
+            "found the end of the line, expected a time tag",
+        ),
+        (
+            "message 2864 tag 1 tag 2",
+            "found tag a second time, expected each part once",
+        ),
+        (
+            "message 2864 flags",
+            "found flags without a name, expected sync or invalid",
+        ),
+        (
+            "message 2864 flags snyc",
+            "found \"snyc\", expected sync or invalid",
+        ),
+        (
+            "message 2864 count 34",
+            "found \"34\", expected a count, decimal, 0 to 33",
+        ),
+        ("message 2864 count -1", "found \"-1\", expected a count"),
+        (
+            "message 2864 count",
+            "found the end of the line, expected a count",
+        ),
+        (
+            "message 2864 words",
+            "found words without a word, expected 1 to 32 data words",
+        ),
+        (
+            "message 2864 words xyz",
+            "found \"xyz\", expected a data word",
+        ),
+        (&words_33, "found more than 32 words, expected at most 32"),
+        (
+            "message 2864 count 1 words 1 2",
+            "found other words than 0000 after the first 1, expected a larger count",
+        ),
+        ("raw", "found 0 bytes, expected 1 to 80 bytes"),
+        (&raw_81, "found 81 bytes, expected 1 to 80 bytes"),
+        ("raw 1", "found \"1\", expected pairs of hexadecimal digits"),
+        (
+            "raw 0g",
+            "found \"0g\", expected pairs of hexadecimal digits",
+        ),
+        (
+            "image",
+            "found the end of the line, expected the image's length in bytes",
+        ),
+        (
+            "image 8192",
+            "found \"8192\", expected the image's length in bytes, decimal, 0 to 8191",
+        ),
+        ("image 1F", "found \"1F\", expected the image's length"),
+        ("image 10 10", "found \"10\", expected the end of the line"),
+    ] {
+        let found = error(text);
+        let expected = format!("line 1: {message}");
+        assert!(found.starts_with(&expected), "{text}: {found}");
+    }
+}
+
+#[test]
+fn errors_of_order() {
+    for (text, message) in [
+        ("ram 0 1\nimage 10", "found image after another line"),
+        ("image 10\nimage 10", "found image after another line"),
+        ("message 2864\nram 0 1", "found ram after a record"),
+        ("raw 00\nram 0 1", "found ram after a record"),
+        (
+            "raw 00\nmessage 2864",
+            "found message, expected nothing after a raw line",
+        ),
+        (
+            "raw 00\nraw 00",
+            "found raw, expected nothing after a raw line",
+        ),
+        (
+            "image 10\nmessage 2864",
+            "found message, expected no records",
+        ),
+        ("image 10\nraw 00", "found raw, expected no records"),
+        (
+            "image 10\nram 5 0",
+            "found word 0000 at address 0005, expected no word beyond",
+        ),
+        (
+            "image 10\nram 6 0",
+            "found word 0000 at address 0006, expected no word beyond",
+        ),
+        (
+            "image 9\nram 4 1",
+            "found word 0001 at address 0004, expected no word beyond",
+        ),
+    ] {
+        let found = error(text);
+        let expected = format!("line 2: {message}");
+        assert!(found.starts_with(&expected), "{text}: {found}");
+    }
+}
+
+#[test]
+fn random_bytes_survive() {
+    let mut random = Random::new(9);
+    for _ in 0..300 {
+        let length = random.below(9_000);
+        assert_survives(&random.bytes(length));
+    }
+    for length in [
+        0, 1, 2, 3, 15, 16, 17, 8190, 8191, 8192, 8193, 8271, 8272, 8273,
+    ] {
+        assert_survives(&random.bytes(length));
+        assert_survives(&vec![0; length]);
+        assert_survives(&vec![0xFF; length]);
+    }
+}
+
+#[test]
+fn random_traces_survive() {
+    let mut random = Random::new(10);
+    for _ in 0..200 {
+        let mut binary = vec![0; 8192];
+        for _ in 0..random.below(50) {
+            binary[random.below(8192)] = random.next() as u8;
+        }
+        for _ in 0..random.below(20) {
+            let mut bytes = write_record(&random.record(5)).unwrap();
+            if random.chance(4) {
+                bytes[random.below(80)] = random.next() as u8;
+            }
+            binary.extend(bytes);
+        }
+        let tail = random.below(80);
+        binary.extend(random.bytes(tail));
+        assert_survives(&binary);
+    }
+}
