@@ -1,0 +1,5 @@
+pub mod Order
+pub mod Condition
+pub mod Descriptors
+pub mod Kept
+pub mod Exchanged

@@ -1,0 +1,1 @@
+// Demand 3: neighbours of a list of messages may be exchanged. The statement is specs/Exchanged.antt.
