@@ -5,16 +5,17 @@ use native.Mathlib.Omega.{arith}
 use native.Mathlib.Nat.{mod-lt, mod-le, mod-eq-of-lt, mod-mod-of-dvd, dvd-of-mod-eq-zero}
 use mathlib.Core.Path.{_≡_}
 use mathlib.Core.Logic.{_⊎_, ⊎-elim}
-use mathlib.Core.Bool.{true, not, _&&_, _||_}
+use mathlib.Core.Bool.{true, false, not, _&&_}
 use mathlib.Core.List.{List}
 use lib.ListN.{length}
 use lib.Dec.{leb, eqb}
 use borrow.Author.Tests.{leb-true, eqb-true, le-leb, eq-eqb, not-true}
 use Rattle.words.specs.declared.settings.Settings.{Settings}
-use Rattle.words.specs.Settings.{stackSizeListed}
+use Rattle.words.specs.Settings.{settingsRefused}
+use Rattle.words.proofs.SettingsLaws.{settings-agreed}
+use Rattle.words.proofs.Basics.{and-left, and-right}
 use Rattle.cells.specs.Window.{aligned, placeOf, meetsFixed, fitsBelow}
 use Rattle.cells.specs.Stack.{stackPointer, stackWindow, stackSound}
-use Rattle.cells.proofs.Flags.{and-left, and-right, or-either}
 use Rattle.cells.proofs.Wrap.{place-from, place-below, aligned-size, aligned-same, SameRun}
 use Rattle.cells.proofs.Sound.{OffFixed, fixed-off, off-fixed, OrdinaryAddress, ordinary-address}
 
@@ -65,15 +66,10 @@ pub record WholeEntries (n : ℕ) : Type 0 where
   pub some : 0 < n
   pub fours : n % 4 ≡ 0
 
-pub size-whole : (n : ℕ) → stackSizeListed n ≡ true → WholeEntries n
-unfolding stackSizeListed
-size-whole n e =
-    let one : (k : ℕ) → WholeEntries k → eqb n k ≡ true → WholeEntries n = λ k z h. rw (eqb-true n k h) z in
-    let small : (eqb n 256 || eqb n 512) ≡ true → WholeEntries n =
-    λ h. ⊎-elim (one 256 (omega arith)) (one 512 (omega arith)) (or-either (eqb n 256) (eqb n 512) h) in
-    let large : (eqb n 1024 || eqb n 2048) ≡ true → WholeEntries n =
-    λ h. ⊎-elim (one 1024 (omega arith)) (one 2048 (omega arith)) (or-either (eqb n 1024) (eqb n 2048) h) in
-    ⊎-elim small large (or-either (eqb n 256 || eqb n 512) (eqb n 1024 || eqb n 2048) e)
+pub size-whole : (s : Settings) → settingsRefused s ≡ false → WholeEntries (s .«stack_size»)
+size-whole s h =
+    ⊎-elim (⊎-elim (λ e. omega arith) (λ e. omega arith)) (⊎-elim (λ e. omega arith) (λ e. omega arith))
+    (settings-agreed s h .size)
 
 module _ (p n : ℕ) (m : p % 4 ≡ 0) (z : WholeEntries n) where
   -- the offset in the block is a multiple of 4, so four words fit behind it
@@ -110,15 +106,15 @@ module _ (p n : ℕ) (m : p % 4 ≡ 0) (z : WholeEntries n) where
   entry-room = omega (arith, entry-fits, mod-le p n)
 
 -- what the message needs of a sound stack of a listed size
-module _ (ram : List ℕ) (s : Settings) (listed : stackSizeListed (s .«stack_size») ≡ true) (f : StackSound ram s) where
+module _ (ram : List ℕ) (s : Settings) (agreed : settingsRefused s ≡ false) (f : StackSound ram s) where
   pub stack-nonempty : 0 < stackWindow ram s .size
   unfolding stackWindow
-  stack-nonempty = rw aligned-size (size-whole (s .«stack_size») listed .some)
+  stack-nonempty = rw aligned-size (size-whole s agreed .some)
 
   -- the four words of a descriptor stand in a row from the stack pointer on
   pub stack-word : (k : ℕ) → k < 4 → placeOf (stackWindow ram s) k ≡ stackPointer ram s + k
   unfolding stackWindow
-  stack-word = entry-straight (stackPointer ram s) (s .«stack_size») (f .multiple) (size-whole _ listed)
+  stack-word = entry-straight (stackPointer ram s) (s .«stack_size») (f .multiple) (size-whole s agreed)
 
   -- in the block
   pub stack-word-from : (k : ℕ) → k < 4 → stackWindow ram s .start ≤ stackPointer ram s + k
@@ -130,12 +126,12 @@ module _ (ram : List ℕ) (s : Settings) (listed : stackSizeListed (s .«stack_s
   -- "The stack pointer moves on by 4, wrapping": it is a multiple of 4 again
   pub stack-next-multiple : placeOf (stackWindow ram s) 4 % 4 ≡ 0
   unfolding stackWindow
-  stack-next-multiple = entry-next (stackPointer ram s) (s .«stack_size») (f .multiple) (size-whole _ listed)
+  stack-next-multiple = entry-next (stackPointer ram s) (s .«stack_size») (f .multiple) (size-whole s agreed)
 
   -- in the same block
   pub stack-next-same : SameRun (aligned (placeOf (stackWindow ram s) 4) (s .«stack_size»)) (stackWindow ram s)
   unfolding stackWindow
-  stack-next-same = entry-same (stackPointer ram s) (s .«stack_size») (f .multiple) (size-whole _ listed)
+  stack-next-same = entry-same (stackPointer ram s) (s .«stack_size») (f .multiple) (size-whole s agreed)
 
   -- so the stack of a RAM that differs in the stack pointer's move alone, as far as the stack asks, is sound in the same block
   pub stack-moved-same :
@@ -151,7 +147,7 @@ module _ (ram : List ℕ) (s : Settings) (listed : stackSizeListed (s .«stack_s
   stack-moved after l e =
       let k = stack-moved-same after e in
       let m : stackPointer after s % 4 ≡ 0 = rw e stack-next-multiple in
-      let h = entry-room (stackPointer after s) (s .«stack_size») m (size-whole _ listed) in
+      let h = entry-room (stackPointer after s) (s .«stack_size») m (size-whole s agreed) in
       record {
         multiple = m;
         pointer = omega (arith, h, k .start, k .size, f .inside, l);

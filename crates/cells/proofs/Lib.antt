@@ -9,3 +9,4 @@ pub mod Places
 pub mod Lowest
 pub mod Listed
 pub mod Whole
+pub mod Determined

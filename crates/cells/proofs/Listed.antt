@@ -5,17 +5,18 @@ use mathlib.Core.Path.{_≡_, refl}
 use mathlib.Core.Logic.{_⊎_, ⊎-elim}
 use mathlib.Core.Bool.{Bool, true, false, cond, _&&_, _||_}
 use mathlib.Core.List.{List}
-use lib.Dec.{ltb, leb, eqb}
-use borrow.Author.Tests.{ltb-true, leb-true, eqb-false, lt-ltb, le-ltb, le-leb}
+use lib.Dec.{ltb, leb}
+use borrow.Author.Tests.{ltb-true, leb-true, lt-ltb, le-ltb, le-leb}
 use Rattle.words.specs.declared.settings.Settings.{Settings}
-use Rattle.words.specs.Command.{transmits, subaddressOf, isModeSubaddress}
+use Rattle.words.specs.Command.{transmits, subaddressOf}
 use Rattle.words.specs.Settings.{isBroadcast}
+use Rattle.words.proofs.Basics.{and-left, and-right, lt-or-ge}
 use Rattle.cells.specs.declared.kind.Kind.{Kind}
 use Rattle.cells.specs.declared.kind.Kind.the-variants.{Receive, Transmit, Broadcast}
 use Rattle.cells.specs.Kind.{cellNumber, kindNumbered, kindOf}
 use Rattle.cells.specs.Cell.{cellAt}
 use Rattle.cells.specs.Area.{isRead, cellNumbered}
-use Rattle.cells.proofs.Flags.{and-left, and-right, or-left, or-right, or-either, not-both, low-or-high}
+use Rattle.cells.proofs.Flags.{or-either, not-both}
 
 -- "subaddresses 1-30; broadcast cells are read only if separate-broadcast is on"
 pub record Listed (s : Settings) (n : ℕ) : Type 0 where
@@ -60,7 +61,7 @@ module _ (s : Settings) (n : ℕ) where
         f .separate h,
         lt-ltb n 96 (f .below),
       ))
-      (low-or-high n 64)
+      (lt-or-ge n 64)
 
 -- the number of a cell tells its kind and its subaddress
 pub number-sub : (kind : Kind) (sub : ℕ) → sub < 32 → cellNumber kind sub % 32 ≡ sub
@@ -129,13 +130,3 @@ command-read s command l h =
       below = number-below kind sub (omega arith);
       separate = λ b. broadcast-separate s command (broadcast-high kind sub (omega arith) b);
     })
-
--- "7: subaddress 0 or 31": every other command is at subaddresses 1 to 30
-pub data-subaddress :
-    (command : ℕ) → isModeSubaddress command ≡ false → (1 ≤ subaddressOf command) × (subaddressOf command ≤ 30)
-unfolding isModeSubaddress
-data-subaddress command e =
-    let sub = subaddressOf command in
-    let a : sub ≡ 0 → ⊥ = eqb-false sub 0 (or-left (eqb sub 0) (eqb sub 31) e) in
-    let b : sub ≡ 31 → ⊥ = eqb-false sub 31 (or-right (eqb sub 0) (eqb sub 31) e) in
-    omega arith

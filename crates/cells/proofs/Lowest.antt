@@ -6,8 +6,8 @@ use mathlib.Core.Logic.{_⊎_, ⊎-elim}
 use mathlib.Core.Bool.{Bool, true, false}
 use lib.Dec.{eqb}
 use borrow.Author.Tests.{eqb-true, eqb-false}
+use Rattle.words.proofs.Basics.{yes-or-no, lt-or-ge}
 use Rattle.cells.specs.Area.{orElse, lowest}
-use Rattle.cells.proofs.Flags.{decided, low-or-high}
 
 -- k is what the search below n finds; number 0 stands for none
 pub record Lowest (bad : ℕ → Bool) (n k : ℕ) : Type 0 where
@@ -24,7 +24,7 @@ module _ (bad : ℕ → Bool) where
   none-more n h b j p l =
       ⊎-elim (λ (k : j < n). h j p k)
       (λ (k : n ≤ j). let e : j ≡ n = omega arith in rw e b)
-      (low-or-high j n)
+      (lt-or-ge j n)
 
   -- a number found before stays
   lowest-kept : (n r : ℕ) → Lowest bad n r → eqb r 0 ≡ false → Lowest bad (suc n) r
@@ -49,7 +49,7 @@ module _ (bad : ℕ → Bool) where
         first = f .none (eqb-true r 0 e);
       }))
       (λ (e : eqb r 0 ≡ false). rw e (lowest-kept n r f e))
-      (decided (eqb r 0))
+      (yes-or-no (eqb r 0))
   lowest-step n r false b f =
       ⊎-elim
       (λ (e : eqb r 0 ≡ true).
@@ -61,7 +61,7 @@ module _ (bad : ℕ → Bool) where
         first = λ j p l. absurd (omega arith);
       }))
       (λ (e : eqb r 0 ≡ false). rw e (lowest-kept n r f e))
-      (decided (eqb r 0))
+      (yes-or-no (eqb r 0))
 
   pub lowest-is : (n : ℕ) → Lowest bad n (lowest bad n)
   unfolding lowest

@@ -6,9 +6,10 @@ use mathlib.Core.Logic.{_⊎_, inl, inr, ⊎-elim}
 use mathlib.Core.Bool.{true, false, and-comm, and-false}
 use lib.Dec.{ltb}
 use borrow.Author.Tests.{ltb-true, lt-ltb, le-ltb}
+use Rattle.words.proofs.Basics.{and-left, and-right, lt-or-ge}
 use Rattle.cells.specs.declared.window.Window.{Window}
 use Rattle.cells.specs.Window.{placeOf, meets, windowsMeet}
-use Rattle.cells.proofs.Flags.{and-left, and-right, and-both, not-both, low-or-high}
+use Rattle.cells.proofs.Flags.{and-both, not-both}
 use Rattle.cells.proofs.Wrap.{place-from, place-below}
 
 -- the n words from a and the m words from b are apart: one ends before the other begins
@@ -33,9 +34,9 @@ module _ (a n b m : ℕ) where
       ⊎-elim
       (λ (h : b < a + n). absurd (not-both _ (and-both _ _ (lt-ltb _ _ l) (lt-ltb _ _ h)) e))
       (λ (h : a + n ≤ b). inl h)
-      (low-or-high b (a + n)))
+      (lt-or-ge b (a + n)))
       (λ (l : b + m ≤ a). inr l)
-      (low-or-high a (b + m))
+      (lt-or-ge a (b + m))
 
   pub apart-no : Apart a n b m → meets a n b m ≡ false
   unfolding meets
@@ -63,13 +64,13 @@ module _ (a n b m : ℕ) where
       ⊎-elim
       (λ (k : b < a + n). absurd (h b (omega arith) k (omega arith) (omega arith)))
       (λ (k : a + n ≤ b). apart-no (inl k))
-      (low-or-high b (a + n)))
+      (lt-or-ge b (a + n)))
       (λ (l : b ≤ a).
       ⊎-elim
       (λ (k : a < b + m). absurd (h a (omega arith) (omega arith) l k))
       (λ (k : b + m ≤ a). apart-no (inr k))
-      (low-or-high a (b + m)))
-      (low-or-high a b)
+      (lt-or-ge a (b + m)))
+      (lt-or-ge a b)
 
 -- a window that meets a run of words in no address has no place in it
 pub place-apart :

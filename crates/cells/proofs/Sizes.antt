@@ -9,12 +9,12 @@ use lib.Dec.{eqb}
 use lib.Pow.{pow-mono}
 use borrow.Author.Tests.{eqb-false}
 use Rattle.words.specs.declared.settings.Area.{Area}
+use Rattle.words.proofs.Basics.{yes-or-no}
 use Rattle.cells.specs.declared.kind.Kind.{Kind}
 use Rattle.cells.specs.declared.cell.Scheme.{Scheme}
 use Rattle.cells.specs.declared.cell.Scheme.the-variants.{Single, Double, Circular}
 use Rattle.cells.specs.Window.{runFrom, aligned}
 use Rattle.cells.specs.Cell.{controlPart, sizeOf, doublesKind, pickScheme, schemeOf, cellAt, windowOf}
-use Rattle.cells.proofs.Flags.{decided}
 use Rattle.cells.proofs.Wrap.{aligned-pointer, aligned-offset, aligned-size, aligned-same, SameRun}
 
 -- the schemes that a control word can give: a circular size is 64·2^m with m from 1 to 7
@@ -29,7 +29,7 @@ picked-sized m d h =
     ⊎-elim
     (λ (e : eqb m 0 ≡ true). rw e (plain d))
     (λ (e : eqb m 0 ≡ false). rw e (circular m (omega (arith, eqb-false m 0 e)) h))
-    (decided (eqb m 0))
+    (yes-or-no (eqb m 0))
   where
     plain : (d : Bool) → Sized (cond d Double Single)
     plain true = double

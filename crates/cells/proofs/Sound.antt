@@ -5,13 +5,14 @@ use mathlib.Core.Path.{_≡_, refl}
 use mathlib.Core.Bool.{true, false, not, _&&_, _||_}
 use lib.Dec.{ltb}
 use borrow.Author.Tests.{ltb-true, leb-true, eqb-true, lt-ltb, le-leb, eq-eqb, not-true}
+use Rattle.words.proofs.Basics.{and-left, and-right, or-left, or-right}
 use Rattle.cells.specs.declared.cell.Scheme.{Scheme}
 use Rattle.cells.specs.declared.cell.Scheme.the-variants.{Single, Double, Circular}
 use Rattle.cells.specs.declared.cell.Cell.{Cell}
 use Rattle.cells.specs.declared.window.Window.{Window}
 use Rattle.cells.specs.Window.{placeOf, meets, meetsFixed, windowsMeet, fitsBelow}
 use Rattle.cells.specs.Cell.{windowOf, doubleFits, cellWindow, soundCell}
-use Rattle.cells.proofs.Flags.{and-left, and-right, or-left, or-right, or-neither}
+use Rattle.cells.proofs.Flags.{or-neither}
 use Rattle.cells.proofs.Wrap.{place-from, place-below, SameRun}
 use Rattle.cells.proofs.Meets.{nothing-shared}
 use Rattle.cells.proofs.Sizes.{Sized, window-nonempty, window-kept}

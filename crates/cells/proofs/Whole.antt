@@ -14,12 +14,13 @@ use Rattle.words.specs.declared.settings.Settings.{Settings}
 use Rattle.words.specs.Command.{subaddressOf}
 use Rattle.words.specs.Refusal.{firstOf, inOrder, firstRefusal}
 use Rattle.words.specs.Settings.{settingsRefused}
+use Rattle.words.proofs.Basics.{and-left, and-right, yes-or-no, lt-or-ge}
 use Rattle.cells.specs.Map.{ramRefused}
 use Rattle.cells.specs.Kind.{kindOf, cellNumber}
 use Rattle.cells.specs.Cell.{cellAt, soundCell}
 use Rattle.cells.specs.Stack.{stackWindow, stackSound}
 use Rattle.cells.specs.Area.{isRead, cellNumbered, isUnsound, lowest, lowestUnsound, areaGrounds, areaRefusal, checkArea}
-use Rattle.cells.proofs.Flags.{and-left, and-right, decided, not-both, low-or-high}
+use Rattle.cells.proofs.Flags.{not-both}
 use Rattle.cells.proofs.Sound.{CellSound, sound-cell-facts, cell-facts-sound}
 use Rattle.cells.proofs.Block.{StackSound, stack-sound-facts, stack-facts-sound}
 use Rattle.cells.proofs.Lowest.{Lowest, lowest-is}
@@ -107,7 +108,7 @@ module _ (ram : List ℕ) (s : Settings) where
 
   unsound-bad : (n : ℕ) → isRead s n ≡ true → (SoundAt ram s n → ⊥) → bad n ≡ true
   unsound-bad n r h =
-      ⊎-elim (λ b. b) (λ b. absurd (h (good-sound n r b))) (decided (bad n))
+      ⊎-elim (λ b. b) (λ b. absurd (h (good-sound n r b))) (yes-or-no (bad n))
 
   pub number-positive : (n : ℕ) → isRead s n ≡ true → 0 < n
   number-positive n r = omega (arith, read-listed s n r .low)
@@ -200,11 +201,11 @@ module _ (ram : List ℕ) (s : Settings) where
       (λ (h : lowestUnsound ram s < cell).
       absurd (bad-unsound _ (found .found l) (f .first _ (bad-listed _ (found .found l)) h)))
       (λ h. h)
-      (low-or-high (lowestUnsound ram s) cell) in
+      (lt-or-ge (lowestUnsound ram s) cell) in
       let high : lowestUnsound ram s ≤ cell =
       ⊎-elim (λ (h : cell < lowestUnsound ram s). absurd (not-both (bad cell) b (found .first cell p h)))
       (λ h. h)
-      (low-or-high cell (lowestUnsound ram s)) in
+      (lt-or-ge cell (lowestUnsound ram s)) in
       let e : lowestUnsound ram s ≡ cell = omega arith in
       let some : lowestUnsound ram s ≡ 0 → ⊥ = λ z. omega arith in
       let n : areaRefusal ram s ≡ 9 = lowest-area (f .accepted) false (ne-eqb _ _ some) in

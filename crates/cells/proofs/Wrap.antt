@@ -7,9 +7,9 @@ use mathlib.Core.Path.{_≡_, refl, sym, ap, _∙_}
 use mathlib.Core.Logic.{_⊎_, inl, inr, ⊎-elim}
 use mathlib.Core.Bool.{true, false}
 use borrow.Author.Tests.{leb-true, leb-false}
+use Rattle.words.proofs.Basics.{lt-or-ge}
 use Rattle.cells.specs.declared.window.Window.{Window}
 use Rattle.cells.specs.Window.{runFrom, aligned, placeOf, rollsOver}
-use Rattle.cells.proofs.Flags.{low-or-high}
 
 -- remainders over plain numbers
 
@@ -28,7 +28,7 @@ mod-moves a d n p h e =
     ⊎-elim
     (λ (l : a % n + d < n). omega (arith, mod-eq-of-lt l))
     (λ (l : n ≤ a % n + d). omega (arith, mod-back (a % n + d) n l (omega arith)))
-    (low-or-high (a % n + d) n)
+    (lt-or-ge (a % n + d) n)
 
 -- a number in the block of p has the block's start
 block-start : (p n q : ℕ) → p - p % n ≤ q → q < p - p % n + n → q % n ≡ q - (p - p % n)
@@ -164,7 +164,7 @@ double-half p h =
     ⊎-elim
     (λ (l : p % 64 < 32). inl (omega arith))
     (λ (l : 32 ≤ p % 64). inr (omega arith))
-    (low-or-high (p % 64) 32)
+    (lt-or-ge (p % 64) 32)
 
 -- and its 32 words never wrap
 pub place-double : (p k : ℕ) → p % 32 ≡ 0 → k < 32 → placeOf (aligned p 64) k ≡ p + k
