@@ -2,8 +2,7 @@
 ghost use mathlib.Core.Path.{_≡_};
 ghost use Prim.Native.Nat.{_+_, _*_, _≤_};
 ghost use lib.ListN.{length};
-ghost use Rattle.words.specs.Value.{zeroWords};
-ghost use Rattle.words.specs.Layout.{wordAt, areZero, fill, wordsIn, valueIn, breaksLayout, readRecord, notRead};
+ghost use Rattle.words.specs.Layout.{wordAt, areZero, wordsIn, valueIn, breaksLayout, readRecord, notRead};
 use crate::choose::both;
 use crate::choose::no;
 use crate::value::Record;

@@ -1,6 +1,6 @@
 // The record writer: a value to 80 bytes, or refusal 5.
 ghost use mathlib.Core.Path.{_≡_};
-ghost use Rattle.words.specs.Writing.{headerOf, putWords, bytesOf, writeRecord};
+ghost use Rattle.words.specs.Writing.{headerOf, putWords, writeRecord};
 use crate::value::Record;
 use crate::value::keeps_layout;
 
