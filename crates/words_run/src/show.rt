@@ -1,0 +1,38 @@
+// Printing: a text, a number, a truth value, a line's end.
+pub fn text(t: &[u8]) {
+    io::write_all(1, t);
+}
+
+pub fn end() {
+    io::write_all(1, b"\n");
+}
+
+// A space and the number in decimal.
+pub fn number(n: u16) {
+    io::write_all(1, b" ");
+    io::print_decimal(1, n as u64);
+}
+
+// A space and the word in four hexadecimal digits.
+pub fn word(n: u16) {
+    io::write_all(1, b" ");
+    io::print_hex(1, n as u64, 4);
+}
+
+// A byte in two hexadecimal digits.
+pub fn byte(n: u8) {
+    io::print_hex(1, n as u64, 2);
+}
+
+// One digit, with nothing before it.
+pub fn digit(n: u16) {
+    io::print_decimal(1, n as u64);
+}
+
+pub fn yes(b: bool) {
+    if b {
+        io::write_all(1, b" yes");
+    } else {
+        io::write_all(1, b" no");
+    }
+}
