@@ -1,14 +1,11 @@
 -- The cases of the reader and the writer: which bytes and values each refuses, and what it gives for the others.
 use Prim.Native.Nat.{ℕ}
-use mathlib.Core.Path.{_≡_, refl}
-use mathlib.Core.Bool.{Bool, true, false, not, cond}
+use mathlib.Core.Path.{_≡_}
+use mathlib.Core.Bool.{true, false}
 use mathlib.Core.List.{List}
 use lib.ListN.{length}
-use lib.Dec.{eqb}
 use borrow.Author.Tests.{eq-eqb, ne-eqb}
 use Rattle.words.specs.declared.value.Record.{Record}
-use Rattle.words.specs.declared.reader.Reading.{Reading}
-use Rattle.words.specs.declared.writer.Written.{Written}
 use Rattle.words.specs.Value.{keepsLayout}
 use Rattle.words.specs.Layout.{valueIn, breaksLayout, readerRefusal, readRecord, notRead}
 use Rattle.words.specs.Writing.{zeroBytes, bytesOf, writerRefusal, writeRecord}

@@ -1,12 +1,12 @@
 -- The ranges of a command word's fields.
-use Prim.Native.Nat.{ℕ, _+_, _*_, _/_, _%_, _<_, _≤_}
+use Prim.Native.Nat.{ℕ, _<_, _≤_}
 use native.Mathlib.Omega.{arith}
-use mathlib.Core.Path.{_≡_, refl}
+use mathlib.Core.Path.{_≡_}
 use mathlib.Core.Logic.{⊎-elim}
-use mathlib.Core.Bool.{Bool, true, false, cond, _||_}
+use mathlib.Core.Bool.{false}
 use lib.Dec.{eqb}
 use borrow.Author.Tests.{eq-eqb, ne-eqb, eqb-false}
-use Rattle.words.specs.Command.{addressOf, transmits, subaddressOf, countField, wordCount, isModeSubaddress}
+use Rattle.words.specs.Command.{addressOf, subaddressOf, countField, wordCount, isModeSubaddress}
 use Rattle.words.proofs.Basics.{eq-or-ne, or-left, or-right}
 
 pub address-small : (command : ℕ) → command < 65536 → addressOf command < 32

@@ -1,22 +1,21 @@
 -- The reader and the writer undo each other, and the writer takes exactly the values that the reader can give.
-use Prim.Native.Nat.{ℕ, zero, suc, _+_, _*_, _-_, _/_, _%_, _<_, _≤_}
+use Prim.Native.Nat.{ℕ, zero, suc, _+_, _*_, _-_, _/_, _%_, _<_}
 use native.Mathlib.Omega.{arith}
 use mathlib.Core.Path.{_≡_, refl, ap, sym, _∙_}
 use mathlib.Core.Logic.{⊎-elim}
-use mathlib.Core.Bool.{Bool, true, false, not, _&&_}
+use mathlib.Core.Bool.{true, false, _&&_}
 use mathlib.Core.List.{List}
 use lib.ListN.{length, getD, set, getD-replicate, List·getD-eq-default}
 use lib.Seq.{ext-getD, getD-set-same, getD-set-other, set-out}
 use borrow.Author.Count.{below-none, below-more}
-use borrow.Author.Tests.{not-false}
 use Rattle.words.specs.declared.value.Record.{Record}
 use Rattle.words.specs.declared.reader.Reading.{Reading}
 use Rattle.words.specs.declared.writer.Written.{Written}
 use Rattle.words.specs.Value.{zeroWords, keepsLayout}
 use Rattle.words.specs.Layout.{wordAt, areZero, fill, wordsIn, valueIn, breaksLayout, readRecord, notRead}
 use Rattle.words.specs.Writing.{zeroBytes, headerOf, putWord, putWords, bytesOf, writeRecord}
-use Rattle.words.proofs.Basics.{yes-or-no, lt-or-ge, eq-or-ne, and-left, and-right}
-use Rattle.words.proofs.Places.{length-fill, fill-at, length-put, put-before, put-high, put-low, are-zero-at, are-zero-of}
+use Rattle.words.proofs.Basics.{yes-or-no, lt-or-ge, eq-or-ne}
+use Rattle.words.proofs.Places.{length-fill, fill-at, length-put, put-before, put-high, put-low, are-zero-at, Kept, layout-kept}
 use Rattle.words.proofs.Cases.{read-length, read-layout, read-good, write-layout, write-good}
 
 -- what the type `Record` says of a value
@@ -102,27 +101,6 @@ pub read-after-write :
 read-after-write v t k = rw (read-good (bytesOf v) (length-bytes v) (written-keeps v t k), value-back v t)
 
 -- ---- what was read is written
-
--- the parts of a layout that is kept
-pub record Kept (s : List ℕ) : Type 0 where
-  pub gap : areZero s 2 2 ≡ true
-  pub gaps : areZero s 8 8 ≡ true
-  pub value : keepsLayout (valueIn s) ≡ true
-
-pub layout-kept : (s : List ℕ) → breaksLayout s ≡ false → Kept s
-unfolding breaksLayout
-layout-kept s b =
-    let all = not-false ((areZero s 2 2 && areZero s 8 8) && keepsLayout (valueIn s)) b in
-    let zeros = and-left (areZero s 2 2 && areZero s 8 8) (keepsLayout (valueIn s)) all in
-    record {
-      gap = and-left (areZero s 2 2) (areZero s 8 8) zeros;
-      gaps = and-right (areZero s 2 2) (areZero s 8 8) zeros;
-      value = and-right (areZero s 2 2 && areZero s 8 8) (keepsLayout (valueIn s)) all;
-    }
-
--- byte k of what is written from what was read
-abbrev Same : List ℕ → ℕ → Type 0
-Same s k = getD (bytesOf (valueIn s)) k 0 ≡ getD s k 0
 
 high-back : (h l : ℕ) → h < 256 → l < 256 → (h * 256 + l) / 256 % 256 ≡ h
 high-back h l a b = omega arith

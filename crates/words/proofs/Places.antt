@@ -3,16 +3,16 @@ use Prim.Native.Nat.{ℕ, zero, suc, _+_, _*_, _/_, _%_, _<_, _≤_}
 use native.Mathlib.Omega.{arith}
 use mathlib.Core.Path.{_≡_, refl, _∙_}
 use mathlib.Core.Logic.{_↔_, ⊎-elim}
-use mathlib.Core.Bool.{Bool, true, false, _&&_, _||_, or-true}
+use mathlib.Core.Bool.{true, false, _&&_, or-true}
 use mathlib.Core.List.{List}
 use lib.ListN.{length, getD, set, length-set}
 use lib.Seq.{getD-set-same, getD-set-other}
-use lib.Dec.{eqb, ltb, leb}
-use borrow.Author.Tests.{eq-eqb, eqb-true, lt-ltb, le-ltb, le-leb, leb-true}
+use lib.Dec.{ltb, leb}
+use borrow.Author.Tests.{eq-eqb, eqb-true, lt-ltb, le-ltb, le-leb, leb-true, not-false}
 use Rattle.words.specs.declared.value.Record.{Record}
 use Rattle.words.specs.Value.{lastsZero, keepsLayout}
-use Rattle.words.specs.Layout.{areZero, fill}
-use Rattle.words.specs.Writing.{putWord, putWords}
+use Rattle.words.specs.Layout.{areZero, fill, valueIn, breaksLayout}
+use Rattle.words.specs.Writing.{putWords}
 use Rattle.words.proofs.Basics.{lt-or-ge, eq-or-ne, and-left, and-right}
 
 pub length-fill : (f : ℕ → ℕ) (xs : List ℕ) (n : ℕ) → length (fill f xs n) ≡ length xs
@@ -146,3 +146,44 @@ keeps-of v h =
 -- a value keeps the layout exactly when it keeps each rule
 pub keeps-layout : (v : Record) → (keepsLayout v ≡ true) ↔ Lawful v
 keeps-layout v = (lawful-of v, keeps-of v)
+
+-- the parts of a layout that is kept
+pub record Kept (s : List ℕ) : Type 0 where
+  pub gap : areZero s 2 2 ≡ true
+  pub gaps : areZero s 8 8 ≡ true
+  pub value : keepsLayout (valueIn s) ≡ true
+
+pub layout-kept : (s : List ℕ) → breaksLayout s ≡ false → Kept s
+unfolding breaksLayout
+layout-kept s b =
+    let all = not-false ((areZero s 2 2 && areZero s 8 8) && keepsLayout (valueIn s)) b in
+    let zeros = and-left (areZero s 2 2 && areZero s 8 8) (keepsLayout (valueIn s)) all in
+    record {
+      gap = and-left (areZero s 2 2) (areZero s 8 8) zeros;
+      gaps = and-right (areZero s 2 2) (areZero s 8 8) zeros;
+      value = and-right (areZero s 2 2 && areZero s 8 8) (keepsLayout (valueIn s)) all;
+    }
+
+-- the layout, rule by rule
+pub record LaidOut (s : List ℕ) : Type 0 where
+  pub gap : (k : ℕ) → k < 2 → getD s (2 + k) 0 ≡ 0
+  pub gaps : (k : ℕ) → k < 8 → getD s (8 + k) 0 ≡ 0
+  pub value : Lawful (valueIn s)
+
+laid-out-of : (s : List ℕ) → breaksLayout s ≡ false → LaidOut s
+laid-out-of s b =
+    let g = layout-kept s b in
+    record {
+      gap = λ k l. are-zero-at s 2 2 k (g .gap) l;
+      gaps = λ k l. are-zero-at s 8 8 k (g .gaps) l;
+      value = lawful-of (valueIn s) (g .value);
+    }
+
+unbroken-of : (s : List ℕ) → LaidOut s → breaksLayout s ≡ false
+unfolding breaksLayout
+unbroken-of s h =
+    rw (are-zero-of s 2 2 (h .gap), are-zero-of s 8 8 (h .gaps), keeps-of (valueIn s) (h .value))
+
+-- 80 bytes keep the layout exactly when they keep each rule
+pub laid-out : (s : List ℕ) → (breaksLayout s ≡ false) ↔ LaidOut s
+laid-out s = (laid-out-of s, unbroken-of s)

@@ -1,8 +1,8 @@
 -- What one more turn of each loop of this crate makes of its definition.
-use Prim.Native.Nat.{ℕ, zero, suc, _+_, _*_}
+use Prim.Native.Nat.{ℕ, _+_, _*_}
 use native.Mathlib.Numerals.{add-one}
-use mathlib.Core.Path.{_≡_, refl}
-use mathlib.Core.Bool.{Bool, _&&_, _||_}
+use mathlib.Core.Path.{_≡_}
+use mathlib.Core.Bool.{_&&_, _||_}
 use mathlib.Core.List.{List}
 use lib.ListN.{getD, set}
 use lib.Dec.{ltb, eqb}

@@ -7,7 +7,7 @@ use lib.Dec.{eqb}
 use Rattle.words.specs.declared.value.Record.{Record}
 use Rattle.words.specs.declared.reader.Reading.{Reading}
 use Rattle.words.specs.Value.{zeroWords, zeroValue, keepsLayout}
-use Rattle.words.specs.Refusal.{firstOf, Test}
+use Rattle.words.specs.Refusal.{firstOf}
 
 -- "numbers high byte first": the word whose high byte is byte i
 abbrev pub wordAt : List ℕ → ℕ → ℕ

@@ -1,13 +1,13 @@
 -- What writing a record value gives.
 use Prim.Native.Nat.{ℕ, zero, suc, _+_, _*_, _/_, _%_}
-use mathlib.Core.Bool.{Bool, not, cond}
+use mathlib.Core.Bool.{not, cond}
 use mathlib.Core.List.{List, [], _∷_}
 use lib.ListN.{getD, set, replicate}
 use lib.Dec.{eqb}
 use Rattle.words.specs.declared.value.Record.{Record}
 use Rattle.words.specs.declared.writer.Written.{Written}
 use Rattle.words.specs.Value.{keepsLayout}
-use Rattle.words.specs.Refusal.{firstOf, Test}
+use Rattle.words.specs.Refusal.{firstOf}
 
 -- "The writer starts from 80 zero bytes."
 abbrev pub zeroBytes : List ℕ

@@ -1,5 +1,5 @@
 -- `lasts_zero` meets its contract. The loop's invariant: `ok` tells whether those of the first `i` words that come after `count` are zero.
-use Prim.Native.Nat.{_≤_, _-_, _+_, _*_}
+use Prim.Native.Nat.{_≤_, _-_}
 use mathlib.Core.Path.{_≡_, refl}
 use Rattle.words.specs.Value.{lastsZero}
 use Rattle.words.proofs.Turns.{lasts-zero-more}

@@ -1,5 +1,5 @@
 -- `put_words` meets its contract. The loop's invariant: the first `i` words stand in the bytes.
-use Prim.Native.Nat.{_≤_, _-_, _+_, _*_}
+use Prim.Native.Nat.{_≤_, _-_}
 use mathlib.Core.Path.{_≡_, refl}
 use Rattle.words.specs.Writing.{putWords}
 use Rattle.words.proofs.Turns.{put-words-more}
