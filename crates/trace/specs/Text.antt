@@ -16,7 +16,7 @@ hexText w =
 -- the last k decimal digits of n, the most significant first
 unfoldable pub digits : ℕ → ℕ → List ℕ
 digits zero n = []
-digits (suc k) n = digits k (n / 10) ++ (48 + n % 10 ∷ [])
+digits (suc k) n = digits k (n / 10) ++ ((48 + n % 10) ∷ [])
 
 -- how many decimal digits n has, counted up to `most`
 unfoldable pub placesUpTo : ℕ → ℕ → ℕ
