@@ -36,12 +36,16 @@ fn convert(arguments: &[OsString]) -> Result<Vec<u8>, Box<dyn Error>> {
 }
 
 fn read_input(file: Option<&OsString>) -> Result<Vec<u8>, Box<dyn Error>> {
-    let Some(name) = file else {
-        let mut bytes = Vec::new();
-        io::stdin().read_to_end(&mut bytes)?;
-        return Ok(bytes);
-    };
-    fs::read(name).map_err(|error| format!("{}: {error}", name.display()).into())
+    match file {
+        Some(name) => {
+            fs::read(name).map_err(|error| format!("{}: {error}", name.to_string_lossy()).into())
+        }
+        None => {
+            let mut bytes = Vec::new();
+            io::stdin().read_to_end(&mut bytes)?;
+            Ok(bytes)
+        }
+    }
 }
 
 fn write_output(bytes: &[u8]) -> Result<(), Box<dyn Error>> {

@@ -88,7 +88,7 @@ impl Cell {
 
     pub fn is_sound(&self, ram_words: usize, stack: &Stack) -> bool {
         let window = self.window();
-        let pointer_fits = self.scheme != Scheme::Double || self.pointer.is_multiple_of(32);
+        let pointer_fits = self.scheme != Scheme::Double || self.pointer % 32 == 0;
         // The pointer lies in its window, so the window's end speaks for both.
         pointer_fits
             && window.end <= ram_words
@@ -115,7 +115,7 @@ impl Stack {
 
     pub fn is_sound(&self, ram_words: usize) -> bool {
         // A multiple of 4 in a block inside RAM is at most 4 below RAM's end.
-        usize::from(self.pointer).is_multiple_of(DESCRIPTOR_WORDS)
+        usize::from(self.pointer) % DESCRIPTOR_WORDS == 0
             && self.block.end <= ram_words
             && !meets_fixed_area(&self.block)
     }

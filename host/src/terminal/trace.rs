@@ -43,9 +43,12 @@ pub fn trace_output(input: &[u8]) -> Vec<u8> {
 /// [`trace_output`] of a terminal with an error planted in it.
 pub fn planted_trace_output(planted: Planted, input: &[u8]) -> Vec<u8> {
     let mut output = Vec::new();
-    let Some(image) = input.get(..IMAGE_BYTES) else {
-        push_line(&mut output, b"image ", input.len() as u64);
-        return output;
+    let image = match input.get(..IMAGE_BYTES) {
+        Some(image) => image,
+        None => {
+            push_line(&mut output, b"image ", input.len() as u64);
+            return output;
+        }
     };
     let mut run = Run::new(planted, image);
     let mut records = TraceView {

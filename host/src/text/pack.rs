@@ -90,8 +90,9 @@ impl Packer {
     }
 
     fn line(&mut self, line: &[u8]) -> Result<(), Mismatch> {
-        let Ok(line) = std::str::from_utf8(line) else {
-            return mismatch("bytes that are not text", "text in UTF-8");
+        let line = match std::str::from_utf8(line) {
+            Ok(line) => line,
+            Err(_) => return mismatch("bytes that are not text", "text in UTF-8"),
         };
         let content = line.split('#').next().unwrap_or_default();
         let mut tokens = Tokens::new(content);
@@ -158,13 +159,15 @@ impl Packer {
     fn message_line(&mut self, tokens: &mut Tokens) -> Result<(), Mismatch> {
         self.enter_records("message")?;
         let record = read_message(tokens)?;
-        let Ok(bytes) = write_record(&record) else {
-            return mismatch(
-                format!("other words than 0000 after the first {}", record.count),
-                "a larger count, or a raw line for a damaged record",
-            );
-        };
-        self.records.extend_from_slice(&bytes);
+        match write_record(&record) {
+            Ok(bytes) => self.records.extend_from_slice(&bytes),
+            Err(_) => {
+                return mismatch(
+                    format!("other words than 0000 after the first {}", record.count),
+                    "a larger count, or a raw line for a damaged record",
+                )
+            }
+        }
         Ok(())
     }
 
@@ -174,7 +177,7 @@ impl Packer {
         let bytes = tokens.bytes()?;
         match bytes.len() {
             RECORD_BYTES => {}
-            1..RECORD_BYTES => self.part = Part::Tail,
+            1..=LONGEST_TAIL => self.part = Part::Tail,
             length => return mismatch(format!("{length} bytes"), "1 to 80 bytes"),
         }
         self.records.extend_from_slice(&bytes);
@@ -192,6 +195,9 @@ impl Packer {
         Ok(())
     }
 }
+
+/// The bytes of a raw line that is not a whole record.
+const LONGEST_TAIL: usize = RECORD_BYTES - 1;
 
 const MESSAGE_PARTS: [&str; 5] = ["bus", "tag", "flags", "count", "words"];
 
@@ -250,13 +256,15 @@ fn read_flags(tokens: &mut Tokens) -> Result<u16, Mismatch> {
 fn read_words(tokens: &mut Tokens, words: &mut [u16; RECORD_WORDS]) -> Result<usize, Mismatch> {
     let mut written = 0;
     while let Some(token) = tokens.next_value() {
-        let Some(word) = words.get_mut(written) else {
-            return mismatch(
-                "more than 32 words",
-                "at most 32 (count 33 says more were heard)",
-            );
-        };
-        *word = hex_word(token, "a data word")?;
+        match words.get_mut(written) {
+            Some(word) => *word = hex_word(token, "a data word")?,
+            None => {
+                return mismatch(
+                    "more than 32 words",
+                    "at most 32 (count 33 says more were heard)",
+                )
+            }
+        }
         written += 1;
     }
     if written == 0 {
@@ -314,10 +322,10 @@ impl<'a> Tokens<'a> {
         let mut bytes = Vec::new();
         while let Some(token) = self.next() {
             for pair in token.as_bytes().chunks(2) {
-                let Some(byte) = hex_byte(pair) else {
-                    return mismatch(quoted(token), "pairs of hexadecimal digits");
-                };
-                bytes.push(byte);
+                match hex_byte(pair) {
+                    Some(byte) => bytes.push(byte),
+                    None => return mismatch(quoted(token), "pairs of hexadecimal digits"),
+                }
             }
         }
         Ok(bytes)
@@ -340,9 +348,11 @@ fn is_hex(token: &str) -> bool {
 }
 
 fn hex_byte(pair: &[u8]) -> Option<u8> {
-    let &[high, low] = pair else { return None };
     let digit = |character: u8| char::from(character).to_digit(16);
-    Some((16 * digit(high)? + digit(low)?) as u8)
+    match *pair {
+        [high, low] => Some((16 * digit(high)? + digit(low)?) as u8),
+        _ => None,
+    }
 }
 
 fn found(token: Option<&str>) -> String {

@@ -48,13 +48,13 @@ fn write_image(text: &mut String, image: &[u8]) -> fmt::Result {
 
 fn write_row(text: &mut String, address: usize, words: &[u16]) -> fmt::Result {
     let not_zero = |&word: &u16| word != 0;
-    let Some(first) = words.iter().position(not_zero) else {
-        return Ok(());
-    };
-    let last = words.iter().rposition(not_zero).unwrap_or(first);
-    write!(text, "ram {:04X}", address + first)?;
-    write_words(text, &words[first..=last])?;
-    writeln!(text)
+    if let Some(first) = words.iter().position(not_zero) {
+        let last = words.iter().rposition(not_zero).unwrap_or(first);
+        write!(text, "ram {:04X}", address + first)?;
+        write_words(text, &words[first..=last])?;
+        writeln!(text)?;
+    }
+    Ok(())
 }
 
 fn write_message(text: &mut String, record: &Record) -> fmt::Result {
