@@ -1,0 +1,248 @@
+-- What an accepted message keeps: every cell's window, the control, illegal and busy words, and the stack's block. Where the
+-- whole-area check passed before, it passes afterwards.
+use Prim.Native.Nat.{ℕ, _+_, _%_, _≤_, _<_}
+use native.Mathlib.Omega.{arith}
+use mathlib.Core.Path.{_≡_, refl, sym, ap, _∙_}
+use mathlib.Core.Logic.{_⊎_, inl, inr, ⊎-elim}
+use mathlib.Core.Bool.{Bool, true, false}
+use mathlib.Core.List.{List}
+use lib.ListN.{length, getD}
+use lib.Dec.{ltb}
+use borrow.Author.Tests.{lt-ltb, le-ltb}
+use Rattle.words.specs.declared.value.Record.{Record}
+use Rattle.words.specs.declared.settings.Settings.{Settings}
+use Rattle.words.specs.Command.{subaddressOf}
+use Rattle.words.proofs.Basics.{lt-or-ge, eq-or-ne}
+use Rattle.cells.specs.declared.kind.Kind.{Kind}
+use Rattle.cells.specs.declared.cell.Cell.{Cell}
+use Rattle.cells.specs.declared.window.Window.{Window}
+use Rattle.cells.specs.declared.cell.Scheme.{Scheme}
+use Rattle.cells.specs.declared.cell.Scheme.the-variants.{Single, Double, Circular}
+use Rattle.cells.specs.Map.{lookupPlace, controlPlace, stackPointerPlace, busyPlace, illegalPlace}
+use Rattle.cells.specs.Kind.{kindNumbered, cellNumber, kindOf}
+use Rattle.cells.specs.Cell.{cellAt, cellWindow}
+use Rattle.cells.specs.Stack.{stackPointer, stackWindow}
+use Rattle.cells.specs.Area.{isRead, cellNumbered, checkArea}
+use Rattle.cells.proofs.Wrap.{SameRun}
+use Rattle.cells.proofs.Sizes.{Sized, cell-sized}
+use Rattle.cells.proofs.Sound.{CellSound, sound-block, sound-moved}
+use Rattle.cells.proofs.Block.{StackSound, stack-moved-same, stack-moved}
+use Rattle.cells.proofs.Listed.{read-listed, number-below, number-differs, numbered-cell}
+use Rattle.cells.proofs.Places.{lookup-between, control-between, stack-pointer-between, busy-between, illegal-between, lookup-differs, lookup-not-control, lookup-not-stack-pointer, control-not-stack-pointer}
+use Rattle.cells.proofs.Whole.{AreaFine, SoundAt, fine-area}
+use Rattle.message.specs.declared.plan.Deed.{Deed}
+use Rattle.message.specs.Target.{cellFor, targetOf}
+use Rattle.message.specs.Deed.{actOf, motionOf, moves}
+use Rattle.message.specs.Plan.{deedOf}
+use Rattle.message.proofs.Sure.{Sure, fine-sure}
+use Rattle.message.proofs.Motion.{single-stays, Contained, motion-contained}
+use Rattle.message.proofs.Step.{afterMessage, deedFor, after-length, cell-low, target-sized, tables-stay, illegal-stay, stack-moves, lookup-after}
+
+-- what one RAM keeps of another
+pub record Kept (s : Settings) (ram after : List ℕ) : Type 0 where
+  pub long : length after ≡ length ram
+  pub stack : SameRun (stackWindow after s) (stackWindow ram s)
+  pub control : (sub : ℕ) → sub < 32 → getD after (controlPlace (s .area) sub) 0 ≡ getD ram (controlPlace (s .area) sub) 0
+  pub busy : (own : Bool) (command : ℕ) → getD after (busyPlace own command) 0 ≡ getD ram (busyPlace own command) 0
+  pub illegal : (own : Bool) (command : ℕ) → getD after (illegalPlace own command) 0 ≡ getD ram (illegalPlace own command) 0
+  pub window :
+      (kind : Kind) (sub : ℕ) →
+      sub < 32 →
+      SameRun (cellWindow (cellAt after (s .area) kind sub)) (cellWindow (cellAt ram (s .area) kind sub))
+
+pub nothing-changed : (s : Settings) (ram : List ℕ) → Kept s ram ram
+nothing-changed s ram =
+    record {
+      long = refl;
+      stack = record { start = refl; size = refl };
+      control = λ sub h. refl;
+      busy = λ own command. refl;
+      illegal = λ own command. refl;
+      window = λ kind sub h. record { start = refl; size = refl };
+    }
+
+-- the number of a cell gives it back
+pub number-back : (n : ℕ) → n < 96 → cellNumber (kindNumbered n) (n % 32) ≡ n
+unfolding kindNumbered cellNumber
+number-back n h =
+    ⊎-elim
+    (λ (l : n < 32). rw (lt-ltb n 32 l) (omega arith))
+    (λ (l : 32 ≤ n).
+    ⊎-elim
+    (λ (g : n < 64). rw (le-ltb n 32 l, lt-ltb n 64 g) (omega arith))
+    (λ (g : 64 ≤ n). rw (le-ltb n 32 l, le-ltb n 64 g) (omega arith))
+    (lt-or-ge n 64))
+    (lt-or-ge n 32)
+
+-- a cell is what its lookup word and its control word say
+cell-words :
+    (m n : List ℕ) (s : Settings) (kind : Kind) (sub : ℕ) →
+    getD m (lookupPlace (s .area) (cellNumber kind sub)) 0 ≡ getD n (lookupPlace (s .area) (cellNumber kind sub)) 0 →
+    getD m (controlPlace (s .area) sub) 0 ≡ getD n (controlPlace (s .area) sub) 0 →
+    cellAt m (s .area) kind sub ≡ cellAt n (s .area) kind sub
+unfolding cellAt
+cell-words m n s kind sub e g = rw (e, g)
+
+-- a cell whose window is the same, with the pointer in it, is as sound
+sound-same :
+    (long : ℕ) (block : Window) (c d : Cell) →
+    CellSound long block c →
+    d .scheme ≡ c .scheme →
+    SameRun (cellWindow d) (cellWindow c) →
+    d .pointer < cellWindow c .start + cellWindow c .size →
+    (c .scheme ≡ Double → d .pointer % 32 ≡ 0) →
+    CellSound long block d
+sound-same long block c d f e k l m =
+    record {
+      pointer = omega (arith, f .inside);
+      inside = rw (k .start, k .size) (f .inside);
+      double = λ h. m (cc);
+      fixed =
+          record { tables = rw (k .start, k .size) (f .fixed .tables); illegal = rw (k .start, k .size) (f .fixed .illegal) };
+      stack = rw (k .start, k .size) (f .stack);
+    }
+
+module _ (ram : List ℕ) (s : Settings) (v : Record) (f : Sure ram s (v .command)) where
+  abbrev after : List ℕ
+  after = afterMessage ram s v
+
+  abbrev number : ℕ
+  number = targetOf ram s (v .command) .number
+
+  -- the message's own cell moves its pointer inside its window
+  pub own-contained :
+      Contained (targetOf ram s (v .command) .cell .scheme) (targetOf ram s (v .command) .cell .pointer)
+      (deedFor ram s v .motion .after)
+  unfolding deedOf motionOf targetOf
+  own-contained =
+      let t = targetOf ram s (v .command) in
+      let a = actOf s t v in
+      motion-contained (t .cell .scheme) (t .cell .pointer) (a .k)
+      (moves (t .cell .scheme) (a .valid) (s .«overwrite_invalid») (a .k))
+      (target-sized ram s v)
+      (single-stays (t .cell .scheme) (a .valid) (s .«overwrite_invalid») (a .k))
+
+  control-stays : (sub : ℕ) → sub < 32 → getD after (controlPlace (s .area) sub) 0 ≡ getD ram (controlPlace (s .area) sub) 0
+  control-stays sub h =
+      let b = control-between (s .area) sub h in
+      tables-stay ram s v f (controlPlace (s .area) sub) (omega arith) (omega arith)
+      (λ e. lookup-not-control (s .area) number sub (cell-low ram s v) (sym e))
+      (control-not-stack-pointer (s .area) sub)
+
+  lookup-stays :
+      (cell : ℕ) →
+      cell < 96 →
+      (cell ≡ number → ⊥) →
+      getD after (lookupPlace (s .area) cell) 0 ≡ getD ram (lookupPlace (s .area) cell) 0
+  lookup-stays cell h n =
+      let b = lookup-between (s .area) cell h in
+      tables-stay ram s v f (lookupPlace (s .area) cell) (omega arith) (omega arith)
+      (λ e. n (lookup-differs (s .area) cell number e))
+      (lookup-not-stack-pointer (s .area) cell h)
+
+  -- every other cell is as it was
+  pub other-cell :
+      (kind : Kind) (sub : ℕ) →
+      sub < 32 →
+      (cellNumber kind sub ≡ number → ⊥) →
+      cellAt after (s .area) kind sub ≡ cellAt ram (s .area) kind sub
+  other-cell kind sub h n =
+      cell-words after ram s kind sub (lookup-stays (cellNumber kind sub) (number-below kind sub h) n) (control-stays sub h)
+
+  -- its own cell has the pointer where rule 5 leaves it, and is otherwise as it was
+  pub own-pointer : cellFor after s (v .command) .pointer ≡ deedFor ram s v .motion .after
+  unfolding cellFor cellAt targetOf
+  own-pointer = lookup-after ram s v f
+
+  pub own-scheme : cellFor after s (v .command) .scheme ≡ cellFor ram s (v .command) .scheme
+  unfolding cellFor cellAt
+  own-scheme = rw (control-stays (subaddressOf (v .command)) (omega arith))
+
+  pub own-window : SameRun (cellWindow (cellFor after s (v .command))) (cellWindow (cellFor ram s (v .command)))
+  unfolding targetOf
+  own-window = rw (own-scheme, own-pointer) (own-contained .same)
+
+  pub own-sound : CellSound (length ram) (stackWindow ram s) (cellFor after s (v .command))
+  unfolding targetOf
+  own-sound =
+      let c = own-contained in
+      sound-same (length ram) (stackWindow ram s) (cellFor ram s (v .command)) (cellFor after s (v .command)) (f .cell)
+      own-scheme own-window (rw own-pointer (c .below))
+      (λ e. rw own-pointer (c .multiple e (f .cell .double e)))
+
+  -- "The pointer stays in its window"
+  pub pointer-stays-from : cellWindow (cellFor ram s (v .command)) .start ≤ cellFor after s (v .command) .pointer
+  unfolding targetOf
+  pointer-stays-from = rw own-pointer (own-contained .from)
+
+  pub pointer-stays-below :
+      cellFor after s (v .command) .pointer
+      < cellWindow (cellFor ram s (v .command)) .start + cellWindow (cellFor ram s (v .command)) .size
+  unfolding targetOf
+  pointer-stays-below = rw own-pointer (own-contained .below)
+
+  window-stays :
+      (kind : Kind) (sub : ℕ) →
+      sub < 32 →
+      SameRun (cellWindow (cellAt after (s .area) kind sub)) (cellWindow (cellAt ram (s .area) kind sub))
+  unfolding targetOf cellFor
+  window-stays kind sub h =
+      ⊎-elim
+      (λ (e : cellNumber kind sub ≡ number).
+      let q = number-differs kind (kindOf s (v .command)) sub (subaddressOf (v .command)) h (omega arith) e in
+      rw (q .0, q .1) own-window)
+      (λ (n : cellNumber kind sub ≡ number → ⊥). rw (other-cell kind sub h n) (record { start = refl; size = refl }))
+      (eq-or-ne (cellNumber kind sub) number)
+
+  pub message-keeps : Kept s ram after
+  message-keeps =
+      record {
+        long = after-length ram s v;
+        stack = stack-moved-same ram s (f .listed) (f .stack) after (stack-moves ram s v f);
+        control = control-stays;
+        busy =
+            λ own command.
+            let b = busy-between own command in
+            let l = lookup-between (s .area) number (cell-low ram s v) in
+            let p = stack-pointer-between (s .area) in
+            tables-stay ram s v f (busyPlace own command) (omega arith) (omega arith) (λ e. omega arith) (λ e. omega arith);
+        illegal =
+            λ own command.
+            let b = illegal-between own command in
+            illegal-stay ram s v f (illegalPlace own command) (omega arith) (omega arith);
+        window = window-stays;
+      }
+
+  pub stack-kept : StackSound after s
+  stack-kept = stack-moved ram s (f .listed) (f .stack) after (after-length ram s v) (stack-moves ram s v f)
+
+  cell-kept : (n : ℕ) → n < 96 → SoundAt ram s n → SoundAt after s n
+  unfolding cellNumbered cellFor targetOf
+  cell-kept n h c =
+      let k = message-keeps in
+      let sub : n % 32 < 32 = omega arith in
+      let moved : CellSound (length ram) (stackWindow ram s) (cellAt after (s .area) (kindNumbered n) (n % 32)) =
+      ⊎-elim
+      (λ (e : n ≡ number).
+      let q =
+      number-differs (kindNumbered n) (kindOf s (v .command)) (n % 32) (subaddressOf (v .command)) sub (omega arith)
+      (number-back n h ∙ e) in
+      rw (q .0, q .1) own-sound)
+      (λ (e : n ≡ number → ⊥).
+      rw (other-cell (kindNumbered n) (n % 32) sub (λ q. e (sym (number-back n h) ∙ q))) c)
+      (eq-or-ne n number) in
+      rw (k .long) (sound-block (length ram) (stackWindow ram s) (cellNumbered after s n) moved (stackWindow after s) (k .stack))
+
+-- where the whole-area check passes, it passes after an accepted message
+pub fine-kept :
+    (ram : List ℕ) (s : Settings) (v : Record) → Sure ram s (v .command) → AreaFine ram s → AreaFine (afterMessage ram s v) s
+fine-kept ram s v f a =
+    record {
+      accepted =
+          record {
+            ram-accepted = rw (after-length ram s v) (a .accepted .ram-accepted);
+            settings-accepted = a .accepted .settings-accepted;
+            stack-sound = stack-kept ram s v f;
+          };
+      cells = λ n r. cell-kept ram s v f n (read-listed s n r .below) (a .cells n r);
+    }

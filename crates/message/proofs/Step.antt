@@ -1,0 +1,245 @@
+-- An accepted message, word by word: RAM afterwards at each address.
+use Prim.Native.Nat.{ℕ, zero, suc, _+_, _%_, _≤_, _<_}
+use native.Mathlib.Omega.{arith}
+use mathlib.Core.Path.{_≡_, refl, sym, ap, _∙_}
+use mathlib.Core.Logic.{_⊎_, inl, inr, ⊎-elim}
+use mathlib.Core.Bool.{Bool, true, false, not, cond, _&&_}
+use mathlib.Core.List.{List, [], _∷_, _++_}
+use lib.ListN.{length, getD, set, length-set}
+use lib.Seq.{getD-set-same, getD-set-other}
+use lib.Dec.{ltb}
+use Rattle.words.specs.declared.value.Record.{Record}
+use Rattle.words.specs.declared.settings.Settings.{Settings}
+use Rattle.words.specs.Command.{transmits, subaddressOf}
+use Rattle.words.proofs.Basics.{yes-or-no}
+use Rattle.cells.specs.declared.window.Window.{Window}
+use Rattle.cells.specs.declared.cell.Scheme.{Scheme}
+use Rattle.cells.specs.Map.{lookupPlace, stackPointerPlace}
+use Rattle.cells.specs.Window.{placeOf}
+use Rattle.cells.specs.Kind.{kindOf}
+use Rattle.cells.specs.Cell.{cellAt}
+use Rattle.cells.specs.Stack.{stackPointer, stackWindow}
+use Rattle.cells.proofs.Wrap.{place-from, place-below}
+use Rattle.cells.proofs.Sizes.{Sized, cell-sized, window-nonempty}
+use Rattle.cells.proofs.Sound.{CellSound, FreeAddress, OrdinaryAddress, sound-address}
+use Rattle.cells.proofs.Block.{StackSound, stack-word-from, stack-word-below, stack-address}
+use Rattle.cells.proofs.Listed.{number-below}
+use Rattle.cells.proofs.Places.{Between, lookup-between, stack-pointer-between, lookup-not-stack-pointer, ordinary-not-lookup, ordinary-not-stack-pointer}
+use Rattle.message.specs.declared.plan.Deed.{Deed}
+use Rattle.message.specs.declared.plan.Entry.{Entry}
+use Rattle.message.specs.declared.plan.Plan.{Plan}
+use Rattle.message.specs.declared.target.Target.{Target}
+use Rattle.message.specs.Target.{cellFor, targetOf}
+use Rattle.message.specs.Deed.{wordsStored, actWith, actOf, motionWith, motionOf, withheld}
+use Rattle.message.specs.Plan.{deedOf, entryOf, planOf}
+use Rattle.message.specs.Writes.{Write, applyWrites, writesTo, dataWrites, pointerWrites, descriptorOf, entryWrites, stackPointerWrites, deedWrites, stackWrites, writesOf}
+use Rattle.message.proofs.Writes.{apply-append, length-apply}
+use Rattle.message.proofs.Footprint.{Avoids, untouched, avoids-append, avoids-places, same-at, Outside, written}
+use Rattle.message.proofs.Sure.{Sure}
+
+-- RAM after an accepted message, and after its deed alone
+abbrev pub afterMessage : List ℕ → Settings → Record → List ℕ
+afterMessage ram s v = applyWrites (writesOf s (planOf ram s v) v) ram
+
+abbrev pub deedFor : List ℕ → Settings → Record → Deed
+deedFor ram s v = deedOf s (targetOf ram s (v .command)) v
+
+abbrev pub afterDeed : List ℕ → Settings → Record → List ℕ
+afterDeed ram s v = applyWrites (deedWrites s (deedFor ram s v) v) ram
+
+module _ (ram : List ℕ) (s : Settings) (v : Record) where
+  after-parts :
+      afterMessage ram s v ≡ applyWrites (stackWrites s (planOf ram s v) v) (afterDeed ram s v)
+  unfolding writesOf planOf
+  after-parts = apply-append (deedWrites s (deedFor ram s v) v) (stackWrites s (planOf ram s v) v) ram
+
+  pub after-length : length (afterMessage ram s v) ≡ length ram
+  after-length = length-apply (writesOf s (planOf ram s v) v) ram
+
+  pub deed-length : length (afterDeed ram s v) ≡ length ram
+  deed-length = length-apply (deedWrites s (deedFor ram s v) v) ram
+
+  -- the cell's number is one of the lookup table's
+  pub cell-low : targetOf ram s (v .command) .number < 96
+  unfolding targetOf
+  cell-low = number-below (kindOf s (v .command)) (subaddressOf (v .command)) (omega arith)
+
+  pub target-sized : Sized (targetOf ram s (v .command) .cell .scheme)
+  unfolding targetOf cellFor
+  target-sized = cell-sized ram (s .area) (kindOf s (v .command)) (subaddressOf (v .command))
+
+  pub target-some : 0 < targetOf ram s (v .command) .window .size
+  unfolding targetOf
+  target-some = window-nonempty (cellFor ram s (v .command) .scheme) (cellFor ram s (v .command) .pointer) (target-sized)
+
+  -- "Receive stores ..": a transmit stores nothing
+  stored-none : transmits (v .command) ≡ true → deedFor ram s v .act .stored ≡ 0
+  unfolding deedOf actOf actWith wordsStored
+  stored-none e = rw e
+
+  pub pointer-read :
+      targetOf ram s (v .command) .cell .pointer
+      ≡ getD ram (lookupPlace (s .area) (targetOf ram s (v .command) .number)) 0
+  unfolding targetOf cellFor cellAt
+  pointer-read = refl
+
+  stays : deedFor ram s v .motion .moves ≡ false → deedFor ram s v .motion .after ≡ targetOf ram s (v .command) .cell .pointer
+  unfolding deedOf motionOf motionWith
+  stays e = rw e
+
+  data-avoids :
+      (a : ℕ) →
+      (transmits (v .command) ≡ true) ⊎ Outside (targetOf ram s (v .command) .window) a →
+      Avoids a (dataWrites (targetOf ram s (v .command) .window) (v .words) (deedFor ram s v .act .stored))
+  unfolding writesTo
+  data-avoids a (inl e) = rw (stored-none e) tt
+  data-avoids a (inr h) =
+      let w = targetOf ram s (v .command) .window in
+      avoids-places a (placeOf w) (λ k. getD (v .words) k 0) (deedFor ram s v .act .stored)
+      (λ k l q. h (rw q (place-from w k)) (rw q (place-below w k target-some)))
+
+  lookup-avoids :
+      (a : ℕ) →
+      (a ≡ lookupPlace (s .area) (targetOf ram s (v .command) .number) → ⊥) →
+      Avoids a (pointerWrites s (deedFor ram s v))
+  unfolding pointerWrites deedOf
+  lookup-avoids a h =
+      let d = deedFor ram s v in
+      ⊎-elim (λ e. rw e (h, tt)) (λ e. rw e tt) (yes-or-no (d .motion .moves))
+
+  -- a deed writes only words of its cell's window, if it stores, and the cell's lookup word
+  pub deed-avoids :
+      (a : ℕ) →
+      (a ≡ lookupPlace (s .area) (targetOf ram s (v .command) .number) → ⊥) →
+      (transmits (v .command) ≡ true) ⊎ Outside (targetOf ram s (v .command) .window) a →
+      Avoids a (deedWrites s (deedFor ram s v) v)
+  unfolding deedWrites deedOf
+  deed-avoids a h w =
+      let d = deedFor ram s v in
+      avoids-append a (dataWrites (d .target .window) (v .words) (d .act .stored)) (pointerWrites s d) (data-avoids a w)
+      (lookup-avoids a h)
+
+  module _ (f : Sure ram s (v .command)) where
+    -- an entry writes only words of the stack's block and the stack pointer
+    pub entry-avoids :
+        (a : ℕ) →
+        Outside (stackWindow ram s) a →
+        (a ≡ stackPointerPlace (s .area) → ⊥) →
+        Avoids a (stackWrites s (planOf ram s v) v)
+    unfolding stackWrites entryWrites planOf entryOf
+    entry-avoids a h p =
+        avoids-append a (entryWrites (entryOf ram s) (descriptorOf (deedFor ram s v) v)) (stackPointerWrites s (entryOf ram s))
+        (avoids-places a (λ k. stackPointer ram s + k) (λ k. getD (descriptorOf (deedFor ram s v) v) k 0) 4
+        (λ k l q.
+        h (rw q (stack-word-from ram s (f .listed) (f .stack) k l))
+        (rw q (stack-word-below ram s (f .listed) (f .stack) k l))))
+        (p, tt)
+
+    -- outside the stack and the stack pointer, RAM afterwards is what the deed leaves
+    pub beyond-stack :
+        (a : ℕ) →
+        Outside (stackWindow ram s) a →
+        (a ≡ stackPointerPlace (s .area) → ⊥) →
+        getD (afterMessage ram s v) a 0 ≡ getD (afterDeed ram s v) a 0
+    beyond-stack a h p =
+        rw after-parts (untouched a (stackWrites s (planOf ram s v) v) (afterDeed ram s v) (entry-avoids a h p))
+
+    -- so every word that is none of these stays
+    pub elsewhere :
+        (a : ℕ) →
+        (a ≡ lookupPlace (s .area) (targetOf ram s (v .command) .number) → ⊥) →
+        (transmits (v .command) ≡ true) ⊎ Outside (targetOf ram s (v .command) .window) a →
+        Outside (stackWindow ram s) a →
+        (a ≡ stackPointerPlace (s .area) → ⊥) →
+        getD (afterMessage ram s v) a 0 ≡ getD ram a 0
+    elsewhere a l w h p =
+        beyond-stack a h p ∙ untouched a (deedWrites s (deedFor ram s v) v) ram (deed-avoids a l w)
+
+    -- no address of the memory map's tables lies in the window or in the stack's block
+    pub tables-clear : (a : ℕ) → 0x100 ≤ a → a < 0x248 → Outside (stackWindow ram s) a
+    tables-clear a l h i j = stack-address ram s (f .stack) a i j .tables l h
+
+    pub tables-outside : (a : ℕ) → 0x100 ≤ a → a < 0x248 → Outside (targetOf ram s (v .command) .window) a
+    unfolding targetOf
+    tables-outside a l h i j =
+        sound-address (length ram) (stackWindow ram s) (cellFor ram s (v .command)) (f .cell) a i j .ordinary .tables l h
+
+    pub illegal-clear : (a : ℕ) → 0x300 ≤ a → a < 0x400 → Outside (stackWindow ram s) a
+    illegal-clear a l h i j = stack-address ram s (f .stack) a i j .illegal l h
+
+    pub illegal-outside : (a : ℕ) → 0x300 ≤ a → a < 0x400 → Outside (targetOf ram s (v .command) .window) a
+    unfolding targetOf
+    illegal-outside a l h i j =
+        sound-address (length ram) (stackWindow ram s) (cellFor ram s (v .command)) (f .cell) a i j .ordinary .illegal l h
+
+    -- the words of the tables stay, but for the lookup word and the stack pointer
+    pub tables-stay :
+        (a : ℕ) →
+        0x100 ≤ a →
+        a < 0x248 →
+        (a ≡ lookupPlace (s .area) (targetOf ram s (v .command) .number) → ⊥) →
+        (a ≡ stackPointerPlace (s .area) → ⊥) →
+        getD (afterMessage ram s v) a 0 ≡ getD ram a 0
+    tables-stay a l h q p = elsewhere a q (inr (tables-outside a l h)) (tables-clear a l h) p
+
+    pub illegal-stay : (a : ℕ) → 0x300 ≤ a → a < 0x400 → getD (afterMessage ram s v) a 0 ≡ getD ram a 0
+    illegal-stay a l h =
+        let p = stack-pointer-between (s .area) in
+        let q = lookup-between (s .area) (targetOf ram s (v .command) .number) cell-low in
+        elsewhere a (λ e. omega arith) (inr (illegal-outside a l h)) (illegal-clear a l h) (λ e. omega arith)
+
+    -- "The stack pointer moves on by 4, wrapping."
+    pub stack-moves : stackPointer (afterMessage ram s v) s ≡ placeOf (stackWindow ram s) 4
+    unfolding stackPointer stackWrites applyWrites planOf entryOf
+    stack-moves =
+        let p = stack-pointer-between (s .area) in
+        let e = entryOf ram s in
+        let m = applyWrites (entryWrites e (descriptorOf (deedFor ram s v) v)) (afterDeed ram s v) in
+        let l : stackPointerPlace (s .area) < length m =
+        rw (length-apply, deed-length) (omega (arith, f .long)) in
+        rw (after-parts, apply-append) (getD-set-same m (stackPointerPlace (s .area)) (e .after) 0 l)
+
+    -- "Four stack words at the stack pointer"
+    pub entry-stands :
+        (k : ℕ) →
+        k < 4 →
+        getD (afterMessage ram s v) (stackPointer ram s + k) 0 ≡ getD (descriptorOf (deedFor ram s v) v) k 0
+    unfolding stackWrites entryWrites applyWrites planOf entryOf
+    entry-stands k h =
+        let d = descriptorOf (deedFor ram s v) v in
+        let from = stack-word-from ram s (f .listed) (f .stack) k h in
+        let below = stack-word-below ram s (f .listed) (f .stack) k h in
+        let o = stack-address ram s (f .stack) (stackPointer ram s + k) from below in
+        let place : ℕ → ℕ = λ i. stackPointer ram s + i in
+        let word : ℕ → ℕ = λ i. getD d i 0 in
+        let m = applyWrites (writesTo place word 4) (afterDeed ram s v) in
+        let l : place k < length (afterDeed ram s v) = rw deed-length (o .inside) in
+        rw (after-parts, apply-append)
+        (getD-set-other m (stackPointerPlace (s .area)) (place k) (placeOf (stackWindow ram s) 4) 0
+        (λ q. ordinary-not-stack-pointer (length ram) (place k) o (s .area) (sym q))
+        ∙ written place word 4 k (afterDeed ram s v) h l (λ j a b q. omega arith))
+
+    -- the cell's lookup word is where rule 5 leaves the pointer
+    pub lookup-after :
+        getD (afterMessage ram s v) (lookupPlace (s .area) (targetOf ram s (v .command) .number)) 0
+        ≡ deedFor ram s v .motion .after
+    unfolding deedWrites pointerWrites applyWrites deedOf
+    lookup-after =
+        let d = deedFor ram s v in
+        let number = targetOf ram s (v .command) .number in
+        let a = lookupPlace (s .area) number in
+        let b = lookup-between (s .area) number cell-low in
+        let words = dataWrites (d .target .window) (v .words) (d .act .stored) in
+        let m = applyWrites words ram in
+        let l : a < length m = rw length-apply (omega (arith, f .long)) in
+        let e =
+        beyond-stack a (tables-clear a (omega arith) (omega arith)) (lookup-not-stack-pointer (s .area) number cell-low) in
+        let g = apply-append words (pointerWrites s d) ram in
+        ⊎-elim
+        (λ (moved : d .motion .moves ≡ true). e ∙ rw (g, moved) (getD-set-same m a (d .motion .after) 0 l))
+        (λ (kept : d .motion .moves ≡ false).
+        e
+        ∙ rw (g, kept)
+        (untouched a words ram (data-avoids a (inr (tables-outside a (omega arith) (omega arith))))
+        ∙ sym (stays kept ∙ pointer-read)))
+        (yes-or-no (d .motion .moves))

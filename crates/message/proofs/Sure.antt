@@ -1,0 +1,69 @@
+-- What the tests before an accepted message have shown of RAM: it is long enough for the memory map, and the stack and the
+-- message's cell are sound.
+use Prim.Native.Nat.{ℕ, _≤_}
+use native.Mathlib.Omega.{arith}
+use mathlib.Core.Path.{_≡_}
+use mathlib.Core.Bool.{Bool, true, false, not, _||_}
+use mathlib.Core.List.{List}
+use lib.ListN.{length}
+use lib.Dec.{ltb, eqb}
+use borrow.Author.Tests.{eqb-true, not-false}
+use Rattle.words.specs.declared.settings.Settings.{Settings}
+use Rattle.words.specs.Command.{subaddressOf, isModeSubaddress}
+use Rattle.words.specs.Settings.{stackSizeListed, settingsRefused}
+use Rattle.words.proofs.Basics.{or-right}
+use Rattle.words.proofs.Refusals.{Accepted, accepted}
+use Rattle.cells.specs.Map.{ramRefused}
+use Rattle.cells.specs.Cell.{soundCell}
+use Rattle.cells.specs.Stack.{stackWindow, stackSound}
+use Rattle.cells.proofs.Sound.{CellSound, sound-cell-facts}
+use Rattle.cells.proofs.Block.{StackSound, stack-sound-facts}
+use Rattle.cells.proofs.Listed.{data-subaddress}
+use Rattle.cells.proofs.Whole.{AreaFine, fine-command}
+use Rattle.message.specs.Target.{cellFor}
+use Rattle.message.specs.Answer.{cellUnsound, groundsFor, refusalFor}
+
+pub record Sure (ram : List ℕ) (s : Settings) (command : ℕ) : Type 0 where
+  pub long : 0x400 ≤ length ram
+  pub listed : stackSizeListed (s .«stack_size») ≡ true
+  pub stack : StackSound ram s
+  pub cell : CellSound (length ram) (stackWindow ram s) (cellFor ram s command)
+
+ram-long : (n : ℕ) → ramRefused n ≡ false → 0x400 ≤ n
+unfolding ramRefused
+ram-long n e = omega (arith, eqb-true n 4096 (not-false (eqb n 4096) e))
+
+size-listed : (s : Settings) → settingsRefused s ≡ false → stackSizeListed (s .«stack_size») ≡ true
+unfolding settingsRefused
+size-listed s e = not-false _ (or-right (ltb 30 (s .address)) (not (stackSizeListed (s .«stack_size»))) e)
+
+-- a message that no number refuses
+pub accepted-sure :
+    (ram : List ℕ) (room : ℕ) (s : Settings) (short broken : Bool) (command : ℕ) →
+    refusalFor ram room s short broken command ≡ 0 →
+    Sure ram s command
+unfolding refusalFor groundsFor cellUnsound
+accepted-sure ram room s short broken command e =
+    let g = groundsFor ram room s short broken command in
+    let a = accepted g .0 e in
+    record {
+      long = ram-long (length ram) (a .ram);
+      listed = size-listed s (a .settings);
+      stack = stack-sound-facts ram s (not-false (stackSound ram s) (a .stack));
+      cell =
+          sound-cell-facts (length ram) (stackWindow ram s) (cellFor ram s command)
+          (not-false (soundCell (length ram) (stackWindow ram s) (cellFor ram s command)) (a .cell));
+    }
+
+-- where the whole-area check passes, every data message
+pub fine-sure :
+    (ram : List ℕ) (s : Settings) (command : ℕ) → AreaFine ram s → isModeSubaddress command ≡ false → Sure ram s command
+unfolding cellFor
+fine-sure ram s command f e =
+    let b = data-subaddress command e in
+    record {
+      long = ram-long (length ram) (f .accepted .ram-accepted);
+      listed = size-listed s (f .accepted .settings-accepted);
+      stack = f .accepted .stack-sound;
+      cell = fine-command ram s command f (b .0) (b .1);
+    }
