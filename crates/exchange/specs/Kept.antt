@@ -4,7 +4,6 @@ use mathlib.Core.List.{List, [], _∷_, _++_, map}
 use lib.ListN.{length, getD, drop}
 use Rattle.words.specs.declared.value.Record.{Record}
 use Rattle.words.specs.declared.settings.Remembered.{Remembered}
-use Rattle.message.specs.declared.answer.Answer.{Answer}
 use Rattle.message.specs.Run.{Effect}
 
 -- interrupt bit 6, "stack wrapped", cleared

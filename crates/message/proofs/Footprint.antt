@@ -2,23 +2,14 @@
 -- the stack pointer. Every other word is left alone, by any call.
 use Prim.Native.Nat.{ℕ, zero, suc, _+_, _≤_, _<_}
 use native.Mathlib.Omega.{arith}
-use mathlib.Core.Path.{_≡_, refl, sym, ap, _∙_}
-use mathlib.Core.Logic.{_⊎_, inl, inr, ⊎-elim}
-use mathlib.Core.Bool.{Bool, true, false, not, cond}
+use mathlib.Core.Path.{_≡_, refl, sym, _∙_}
+use mathlib.Core.Logic.{_⊎_, ⊎-elim}
 use mathlib.Core.List.{List, [], _∷_, _++_}
 use lib.ListN.{length, getD, set, length-set}
 use lib.Seq.{getD-set-same, getD-set-other, set-out}
-use lib.Dec.{eqb}
-use Rattle.words.specs.declared.value.Record.{Record}
-use Rattle.words.specs.declared.settings.Settings.{Settings}
-use Rattle.words.proofs.Basics.{yes-or-no, lt-or-ge, eq-or-ne}
+use Rattle.words.proofs.Basics.{lt-or-ge, eq-or-ne}
 use Rattle.cells.specs.declared.window.Window.{Window}
-use Rattle.cells.specs.Map.{lookupPlace, stackPointerPlace}
-use Rattle.cells.specs.Window.{placeOf}
-use Rattle.message.specs.declared.plan.Deed.{Deed}
-use Rattle.message.specs.declared.plan.Entry.{Entry}
-use Rattle.message.specs.declared.plan.Plan.{Plan}
-use Rattle.message.specs.Writes.{Write, applyWrites, writesTo, dataWrites, pointerWrites, descriptorOf, entryWrites, stackPointerWrites, deedWrites, stackWrites, writesOf}
+use Rattle.message.specs.Writes.{Write, applyWrites, writesTo}
 use Rattle.message.proofs.Writes.{apply-append, length-apply}
 
 -- no write of the list names the address

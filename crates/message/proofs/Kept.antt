@@ -2,12 +2,11 @@
 -- whole-area check passed before, it passes afterwards.
 use Prim.Native.Nat.{ℕ, _+_, _%_, _≤_, _<_}
 use native.Mathlib.Omega.{arith}
-use mathlib.Core.Path.{_≡_, refl, sym, ap, _∙_}
-use mathlib.Core.Logic.{_⊎_, inl, inr, ⊎-elim}
-use mathlib.Core.Bool.{Bool, true, false}
+use mathlib.Core.Path.{_≡_, refl, sym, _∙_}
+use mathlib.Core.Logic.{_⊎_, ⊎-elim}
+use mathlib.Core.Bool.{Bool}
 use mathlib.Core.List.{List}
 use lib.ListN.{length, getD}
-use lib.Dec.{ltb}
 use borrow.Author.Tests.{lt-ltb, le-ltb}
 use Rattle.words.specs.declared.value.Record.{Record}
 use Rattle.words.specs.declared.settings.Settings.{Settings}
@@ -16,25 +15,22 @@ use Rattle.words.proofs.Basics.{lt-or-ge, eq-or-ne}
 use Rattle.cells.specs.declared.kind.Kind.{Kind}
 use Rattle.cells.specs.declared.cell.Cell.{Cell}
 use Rattle.cells.specs.declared.window.Window.{Window}
-use Rattle.cells.specs.declared.cell.Scheme.{Scheme}
-use Rattle.cells.specs.declared.cell.Scheme.the-variants.{Single, Double, Circular}
-use Rattle.cells.specs.Map.{lookupPlace, controlPlace, stackPointerPlace, busyPlace, illegalPlace}
+use Rattle.cells.specs.declared.cell.Scheme.the-variants.{Double}
+use Rattle.cells.specs.Map.{lookupPlace, controlPlace, busyPlace, illegalPlace}
 use Rattle.cells.specs.Kind.{kindNumbered, cellNumber, kindOf}
 use Rattle.cells.specs.Cell.{cellAt, cellWindow}
-use Rattle.cells.specs.Stack.{stackPointer, stackWindow}
-use Rattle.cells.specs.Area.{isRead, cellNumbered, checkArea}
+use Rattle.cells.specs.Stack.{stackWindow}
+use Rattle.cells.specs.Area.{cellNumbered}
 use Rattle.cells.proofs.Wrap.{SameRun}
-use Rattle.cells.proofs.Sizes.{Sized, cell-sized}
-use Rattle.cells.proofs.Sound.{CellSound, sound-block, sound-moved}
+use Rattle.cells.proofs.Sound.{CellSound, sound-block}
 use Rattle.cells.proofs.Block.{StackSound, stack-moved-same, stack-moved}
-use Rattle.cells.proofs.Listed.{read-listed, number-below, number-differs, numbered-cell}
+use Rattle.cells.proofs.Listed.{read-listed, number-below, number-differs}
 use Rattle.cells.proofs.Places.{lookup-between, control-between, stack-pointer-between, busy-between, illegal-between, lookup-differs, lookup-not-control, lookup-not-stack-pointer, control-not-stack-pointer}
-use Rattle.cells.proofs.Whole.{AreaFine, SoundAt, fine-area}
-use Rattle.message.specs.declared.plan.Deed.{Deed}
+use Rattle.cells.proofs.Whole.{AreaFine, SoundAt}
 use Rattle.message.specs.Target.{cellFor, targetOf}
 use Rattle.message.specs.Deed.{actOf, motionOf, moves}
 use Rattle.message.specs.Plan.{deedOf}
-use Rattle.message.proofs.Sure.{Sure, fine-sure}
+use Rattle.message.proofs.Sure.{Sure}
 use Rattle.message.proofs.Motion.{single-stays, Contained, motion-contained}
 use Rattle.message.proofs.Step.{afterMessage, deedFor, after-length, cell-low, target-sized, tables-stay, illegal-stay, stack-moves, lookup-after}
 
@@ -75,7 +71,7 @@ number-back n h =
     (lt-or-ge n 32)
 
 -- a cell is what its lookup word and its control word say
-cell-words :
+pub cell-words :
     (m n : List ℕ) (s : Settings) (kind : Kind) (sub : ℕ) →
     getD m (lookupPlace (s .area) (cellNumber kind sub)) 0 ≡ getD n (lookupPlace (s .area) (cellNumber kind sub)) 0 →
     getD m (controlPlace (s .area) sub) 0 ≡ getD n (controlPlace (s .area) sub) 0 →

@@ -3,15 +3,12 @@ use Prim.Native.Nat.{ℕ, _+_, _%_, _≤_, _<_}
 use native.Mathlib.Omega.{arith}
 use mathlib.Core.Path.{_≡_, refl}
 use mathlib.Core.Bool.{Bool, true, false, true≢false}
-use Rattle.words.specs.declared.value.Record.{Record}
-use Rattle.words.specs.declared.settings.Settings.{Settings}
 use Rattle.cells.specs.declared.cell.Scheme.{Scheme}
-use Rattle.cells.specs.declared.cell.Scheme.the-variants.{Single, Double, Circular}
+use Rattle.cells.specs.declared.cell.Scheme.the-variants.{Single, Double}
 use Rattle.cells.specs.Window.{placeOf}
 use Rattle.cells.specs.Cell.{windowOf}
 use Rattle.cells.proofs.Wrap.{place-from, place-below, SameRun, double-flips}
 use Rattle.cells.proofs.Sizes.{Sized, window-nonempty, window-pointer, window-offset, window-kept}
-use Rattle.message.specs.declared.deed.Motion.{Motion}
 use Rattle.message.specs.Deed.{mayMove, stride, moves, motionWith}
 
 -- "Single: the pointer stays."

@@ -1,10 +1,10 @@
 -- Any call, refused or not: words outside the cell's window, its lookup word, the active stack's block and the stack pointer
 -- are never changed, nor any word of the reply behind those sent; windows and the stack's block stay.
-use Prim.Native.Nat.{ℕ, _+_, _≤_, _<_}
+use Prim.Native.Nat.{ℕ, _≤_}
 use native.Mathlib.Omega.{arith}
 use mathlib.Core.Path.{_≡_, refl}
 use mathlib.Core.Logic.{⊎-elim, inr}
-use mathlib.Core.Bool.{Bool, true, false, not, cond}
+use mathlib.Core.Bool.{Bool, true, false, not}
 use mathlib.Core.List.{List}
 use lib.ListN.{length, getD}
 use lib.Dec.{eqb}
@@ -23,7 +23,7 @@ use Rattle.message.specs.Reply.{replyWords}
 use Rattle.message.specs.Answer.{groundsFor, refusalFor, ramFor, replyFor}
 use Rattle.message.specs.Message.{ramAfterValue, replyAfterValue, ramAfterBytes, replyAfterBytes}
 use Rattle.message.proofs.Footprint.{Outside}
-use Rattle.message.proofs.Sure.{Sure, accepted-sure}
+use Rattle.message.proofs.Sure.{accepted-sure}
 use Rattle.message.proofs.Step.{elsewhere, deedFor}
 use Rattle.message.proofs.Kept.{Kept, message-keeps, nothing-changed}
 use Rattle.message.proofs.Replied.{reply-behind, sent-few}

@@ -1,16 +1,15 @@
 -- The reply buffer after an accepted message: the words sent, and behind them what was there.
-use Prim.Native.Nat.{ℕ, zero, suc, _+_, _-_, _≤_, _<_}
-use native.Mathlib.Numerals.{add-one}
+use Prim.Native.Nat.{ℕ, zero, suc, _+_, _-_, _≤_}
 use native.Mathlib.Omega.{arith}
-use mathlib.Core.Path.{_≡_, refl, sym, ap, _∙_}
+use mathlib.Core.Path.{_≡_, refl, sym, _∙_}
 use mathlib.Core.Logic.{⊎-elim}
-use mathlib.Core.Bool.{Bool, true, false, not, cond, _&&_}
+use mathlib.Core.Bool.{true, false, not, _&&_}
 use mathlib.Core.List.{List, [], _∷_, _++_, map, append-assoc}
 use lib.ListN.{length, getD, set, take, drop, length-set, length-append, length-map, take-append-drop}
 use lib.Seq.{take-suc-set, drop-set-lt, getD-append-add, getD-drop}
 use Rattle.words.specs.declared.value.Record.{Record}
 use Rattle.words.specs.declared.settings.Settings.{Settings}
-use Rattle.words.specs.Command.{transmits, wordCount}
+use Rattle.words.specs.Command.{transmits}
 use Rattle.words.proofs.Basics.{yes-or-no}
 use Rattle.words.proofs.Commands.{word-count-to}
 use Rattle.cells.specs.Window.{placeOf}
@@ -19,7 +18,7 @@ use Rattle.message.specs.declared.target.Target.{Target}
 use Rattle.message.specs.Deed.{wordsSent, actWith, actOf}
 use Rattle.message.specs.Plan.{deedOf}
 use Rattle.message.specs.Writes.{Write, applyWrites, writesTo}
-use Rattle.message.specs.Reply.{sentWrites, replyWrites, replyWords}
+use Rattle.message.specs.Reply.{replyWrites, replyWords}
 
 -- the writes name places in a row, from `from` on
 abbrev InRow : ℕ → List Write → Type 0

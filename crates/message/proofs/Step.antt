@@ -1,19 +1,16 @@
 -- An accepted message, word by word: RAM afterwards at each address.
-use Prim.Native.Nat.{ℕ, zero, suc, _+_, _%_, _≤_, _<_}
+use Prim.Native.Nat.{ℕ, _+_, _≤_, _<_}
 use native.Mathlib.Omega.{arith}
-use mathlib.Core.Path.{_≡_, refl, sym, ap, _∙_}
+use mathlib.Core.Path.{_≡_, refl, sym, _∙_}
 use mathlib.Core.Logic.{_⊎_, inl, inr, ⊎-elim}
-use mathlib.Core.Bool.{Bool, true, false, not, cond, _&&_}
-use mathlib.Core.List.{List, [], _∷_, _++_}
-use lib.ListN.{length, getD, set, length-set}
+use mathlib.Core.Bool.{true, false}
+use mathlib.Core.List.{List}
+use lib.ListN.{length, getD}
 use lib.Seq.{getD-set-same, getD-set-other}
-use lib.Dec.{ltb}
 use Rattle.words.specs.declared.value.Record.{Record}
 use Rattle.words.specs.declared.settings.Settings.{Settings}
 use Rattle.words.specs.Command.{transmits, subaddressOf}
 use Rattle.words.proofs.Basics.{yes-or-no}
-use Rattle.cells.specs.declared.window.Window.{Window}
-use Rattle.cells.specs.declared.cell.Scheme.{Scheme}
 use Rattle.cells.specs.Map.{lookupPlace, stackPointerPlace}
 use Rattle.cells.specs.Window.{placeOf}
 use Rattle.cells.specs.Kind.{kindOf}
@@ -21,20 +18,17 @@ use Rattle.cells.specs.Cell.{cellAt}
 use Rattle.cells.specs.Stack.{stackPointer, stackWindow}
 use Rattle.cells.proofs.Wrap.{place-from, place-below}
 use Rattle.cells.proofs.Sizes.{Sized, cell-sized, window-nonempty}
-use Rattle.cells.proofs.Sound.{CellSound, FreeAddress, OrdinaryAddress, sound-address}
-use Rattle.cells.proofs.Block.{StackSound, stack-word-from, stack-word-below, stack-address}
+use Rattle.cells.proofs.Sound.{sound-address}
+use Rattle.cells.proofs.Block.{stack-word-from, stack-word-below, stack-address}
 use Rattle.cells.proofs.Listed.{number-below}
-use Rattle.cells.proofs.Places.{Between, lookup-between, stack-pointer-between, lookup-not-stack-pointer, ordinary-not-lookup, ordinary-not-stack-pointer}
+use Rattle.cells.proofs.Places.{lookup-between, stack-pointer-between, lookup-not-stack-pointer, ordinary-not-lookup, ordinary-not-stack-pointer}
 use Rattle.message.specs.declared.plan.Deed.{Deed}
-use Rattle.message.specs.declared.plan.Entry.{Entry}
-use Rattle.message.specs.declared.plan.Plan.{Plan}
-use Rattle.message.specs.declared.target.Target.{Target}
 use Rattle.message.specs.Target.{cellFor, targetOf}
-use Rattle.message.specs.Deed.{wordsStored, actWith, actOf, motionWith, motionOf, withheld}
+use Rattle.message.specs.Deed.{wordsStored, actWith, actOf, motionWith, motionOf}
 use Rattle.message.specs.Plan.{deedOf, entryOf, planOf}
-use Rattle.message.specs.Writes.{Write, applyWrites, writesTo, dataWrites, pointerWrites, descriptorOf, entryWrites, stackPointerWrites, deedWrites, stackWrites, writesOf}
+use Rattle.message.specs.Writes.{applyWrites, writesTo, dataWrites, pointerWrites, descriptorOf, entryWrites, stackPointerWrites, deedWrites, stackWrites, writesOf}
 use Rattle.message.proofs.Writes.{apply-append, length-apply}
-use Rattle.message.proofs.Footprint.{Avoids, untouched, avoids-append, avoids-places, same-at, Outside, written}
+use Rattle.message.proofs.Footprint.{Avoids, untouched, avoids-append, avoids-places, Outside, written}
 use Rattle.message.proofs.Sure.{Sure}
 
 -- RAM after an accepted message, and after its deed alone
@@ -243,3 +237,34 @@ module _ (ram : List ℕ) (s : Settings) (v : Record) where
         (untouched a words ram (data-avoids a (inr (tables-outside a (omega arith) (omega arith))))
         ∙ sym (stays kept ∙ pointer-read)))
         (yes-or-no (d .motion .moves))
+
+    -- no word of the window lies in the stack's block
+    block-outside :
+        (a : ℕ) →
+        stackWindow ram s .start ≤ a →
+        a < stackWindow ram s .start + stackWindow ram s .size →
+        Outside (targetOf ram s (v .command) .window) a
+    unfolding targetOf
+    block-outside a l h i j =
+        sound-address (length ram) (stackWindow ram s) (cellFor ram s (v .command)) (f .cell) a i j .stack l h
+
+    -- a word of the stack's block that is none of the entry's four stays
+    pub block-stays :
+        (a : ℕ) →
+        stackWindow ram s .start ≤ a →
+        a < stackWindow ram s .start + stackWindow ram s .size →
+        ((k : ℕ) → k < 4 → a ≡ stackPointer ram s + k → ⊥) →
+        getD (afterMessage ram s v) a 0 ≡ getD ram a 0
+    unfolding stackWrites entryWrites planOf entryOf
+    block-stays a l h n =
+        let o = stack-address ram s (f .stack) a l h in
+        let e = entryOf ram s in
+        let d = descriptorOf (deedFor ram s v) v in
+        rw after-parts
+        (untouched a (stackWrites s (planOf ram s v) v) (afterDeed ram s v)
+        (avoids-append a (entryWrites e d) (stackPointerWrites s e)
+        (avoids-places a (λ k. stackPointer ram s + k) (λ k. getD d k 0) 4 n)
+        (λ q. ordinary-not-stack-pointer (length ram) a o (s .area) (sym q), tt))
+        ∙ untouched a (deedWrites s (deedFor ram s v) v) ram
+        (deed-avoids a (λ q. ordinary-not-lookup (length ram) a o (s .area) (targetOf ram s (v .command) .number) cell-low (sym q))
+        (inr (block-outside a l h))))

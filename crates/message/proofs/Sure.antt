@@ -3,16 +3,16 @@
 use Prim.Native.Nat.{ℕ, _≤_}
 use native.Mathlib.Omega.{arith}
 use mathlib.Core.Path.{_≡_}
-use mathlib.Core.Bool.{Bool, true, false, not, _||_}
+use mathlib.Core.Bool.{Bool, true, false, not}
 use mathlib.Core.List.{List}
 use lib.ListN.{length}
 use lib.Dec.{ltb, eqb}
 use borrow.Author.Tests.{eqb-true, not-false}
 use Rattle.words.specs.declared.settings.Settings.{Settings}
-use Rattle.words.specs.Command.{subaddressOf, isModeSubaddress}
+use Rattle.words.specs.Command.{isModeSubaddress}
 use Rattle.words.specs.Settings.{stackSizeListed, settingsRefused}
 use Rattle.words.proofs.Basics.{or-right}
-use Rattle.words.proofs.Refusals.{Accepted, accepted}
+use Rattle.words.proofs.Refusals.{accepted}
 use Rattle.cells.specs.Map.{ramRefused}
 use Rattle.cells.specs.Cell.{soundCell}
 use Rattle.cells.specs.Stack.{stackWindow, stackSound}

@@ -1,0 +1,212 @@
+-- Two RAMs that are equal outside the stack's block: a message, and a run, finds and leaves the same in both.
+use Prim.Native.Nat.{ℕ, zero, suc, _+_, _≤_, _<_}
+use native.Mathlib.Omega.{arith}
+use mathlib.Core.Path.{_≡_, refl, sym, _∙_}
+use mathlib.Core.Logic.{⊎-elim}
+use mathlib.Core.Bool.{true}
+use mathlib.Core.List.{List, [], _∷_}
+use lib.ListN.{length, getD}
+use Rattle.words.specs.declared.value.Record.{Record}
+use Rattle.words.specs.declared.settings.Settings.{Settings}
+use Rattle.words.specs.Command.{subaddressOf}
+use Rattle.words.specs.Settings.{isOwn}
+use Rattle.words.proofs.Basics.{eq-or-ne, and-left, and-right}
+use Rattle.cells.specs.declared.window.Window.{Window}
+use Rattle.cells.specs.Map.{lookupPlace, controlPlace, stackPointerPlace, busyPlace, illegalPlace, isBusyAt, isIllegalAt}
+use Rattle.cells.specs.Window.{placeOf}
+use Rattle.cells.specs.Kind.{cellNumber, kindOf}
+use Rattle.cells.specs.Stack.{stackPointer, stackWindow}
+use Rattle.cells.proofs.Wrap.{SameRun}
+use Rattle.cells.proofs.Block.{StackSound, stack-address}
+use Rattle.cells.proofs.Sound.{sound-place}
+use Rattle.cells.proofs.Listed.{number-below}
+use Rattle.cells.proofs.Places.{lookup-between, control-between, stack-pointer-between, busy-between, illegal-between}
+use Rattle.message.specs.declared.plan.Deed.{Deed}
+use Rattle.message.specs.Target.{cellFor, isIllegal, isBusy, targetOf}
+use Rattle.message.specs.Plan.{deedOf, entryOf, planOf}
+use Rattle.message.specs.Writes.{writesTo, deedWrites}
+use Rattle.message.specs.Reply.{replyWrites, replyWords}
+use Rattle.message.specs.Run.{State, stepValue, run, effectOf, effects}
+use Rattle.message.proofs.Footprint.{Outside, same-at}
+use Rattle.message.proofs.Step.{deedFor, after-length, target-sized, stack-moves, beyond-stack}
+use Rattle.message.proofs.Kept.{Kept, cell-words, message-keeps}
+use Rattle.exchange.specs.Condition.{wellFormed, allWellFormed}
+use Rattle.exchange.proofs.Accept.{Good, Formed, formed, done, sure, good-next}
+
+pub record Alike (block : Window) (m n : List ℕ) : Type 0 where
+  pub long : length m ≡ length n
+  pub words : (a : ℕ) → Outside block a → getD m a 0 ≡ getD n a 0
+
+pub alike-self : (block : Window) (m : List ℕ) → Alike block m m
+alike-self block m = record { long = refl; words = λ a h. refl }
+
+pub alike-swap : (block : Window) (m n : List ℕ) → Alike block m n → Alike block n m
+alike-swap block m n e = record { long = sym (e .long); words = λ a h. sym (e .words a h) }
+
+pub alike-both : (block : Window) (l m n : List ℕ) → Alike block l m → Alike block m n → Alike block l n
+alike-both block l m n e g = record { long = e .long ∙ g .long; words = λ a h. e .words a h ∙ g .words a h }
+
+-- the stack's block, though its pointer has moved
+pub alike-block : (v w : Window) (m n : List ℕ) → SameRun v w → Alike w m n → Alike v m n
+alike-block v w m n k e =
+    record { long = e .long; words = λ a h. e .words a (λ p q. h (rw (k .start) p) (rw (k .start, k .size) q)) }
+
+-- a command is aimed at the same where its cell, its illegal word and its busy word are the same
+pub target-same :
+    (m n : List ℕ) (s : Settings) (command : ℕ) →
+    cellFor m s command ≡ cellFor n s command →
+    getD m (illegalPlace (isOwn s command) command) 0 ≡ getD n (illegalPlace (isOwn s command) command) 0 →
+    getD m (busyPlace (isOwn s command) command) 0 ≡ getD n (busyPlace (isOwn s command) command) 0 →
+    targetOf m s command ≡ targetOf n s command
+unfolding targetOf isIllegal isBusy isIllegalAt isBusyAt
+target-same m n s command c i b = rw (c, i, b)
+
+writes-same :
+    (place f g : ℕ → ℕ) (n : ℕ) → ((k : ℕ) → k < n → f k ≡ g k) → writesTo place f n ≡ writesTo place g n
+unfolding writesTo
+writes-same place f g zero h = refl
+writes-same place f g (suc n) h = rw (writes-same place f g n (λ k l. h k (omega arith)), h n (omega arith))
+
+-- the words sent are the same where the window's words are
+pub words-same :
+    (m n : List ℕ) (d : Deed) →
+    ((k : ℕ) → getD m (placeOf (d .target .window) k) 0 ≡ getD n (placeOf (d .target .window) k) 0) →
+    replyWords m d ≡ replyWords n d
+unfolding replyWords replyWrites
+words-same m n d h =
+    let w = d .target .window in
+    rw (writes-same (λ k. k + 1) (λ k. getD m (placeOf w k) 0) (λ k. getD n (placeOf w k) 0) (d .act .sent) (λ k l. h k))
+
+-- the tables lie outside the stack's block
+module _ (ram : List ℕ) (s : Settings) (f : StackSound ram s) where
+  pub tables-off : (a : ℕ) → 0x100 ≤ a → a < 0x248 → Outside (stackWindow ram s) a
+  tables-off a l h i j = stack-address ram s f a i j .tables l h
+
+  pub illegal-off : (a : ℕ) → 0x300 ≤ a → a < 0x400 → Outside (stackWindow ram s) a
+  illegal-off a l h i j = stack-address ram s f a i j .illegal l h
+
+-- one message
+module _
+    (s : Settings)
+    (v : Record)
+    (x y : State)
+    (g : Good s x)
+    (h : Good s y)
+    (f : Formed s v)
+    (e : Alike (stackWindow (x .ram) s) (x .ram) (y .ram))
+  where
+    abbrev m : List ℕ
+    m = x .ram
+
+    abbrev n : List ℕ
+    n = y .ram
+
+    table-same : (a : ℕ) → 0x100 ≤ a → a < 0x248 → getD m a 0 ≡ getD n a 0
+    table-same a l i = e .words a (tables-off m s (g .area .accepted .stack-sound) a l i)
+
+    pointer-same : stackPointer m s ≡ stackPointer n s
+    unfolding stackPointer
+    pointer-same =
+        let b = stack-pointer-between (s .area) in
+        table-same (stackPointerPlace (s .area)) (omega arith) (omega arith)
+
+    block-same : stackWindow m s ≡ stackWindow n s
+    unfolding stackWindow
+    block-same = rw pointer-same
+
+    aim-same : targetOf m s (v .command) ≡ targetOf n s (v .command)
+    unfolding cellFor
+    aim-same =
+        let c = v .command in
+        let sub = subaddressOf c in
+        let number = cellNumber (kindOf s c) sub in
+        let l = lookup-between (s .area) number (number-below (kindOf s c) sub (omega arith)) in
+        let k = control-between (s .area) sub (omega arith) in
+        let b = busy-between (isOwn s c) c in
+        let i = illegal-between (isOwn s c) c in
+        target-same m n s c
+        (cell-words m n s (kindOf s c) sub (table-same (lookupPlace (s .area) number) (omega arith) (omega arith))
+        (table-same (controlPlace (s .area) sub) (omega arith) (omega arith)))
+        (e .words (illegalPlace (isOwn s c) c)
+        (illegal-off m s (g .area .accepted .stack-sound) (illegalPlace (isOwn s c) c) (omega arith) (omega arith)))
+        (table-same (busyPlace (isOwn s c) c) (omega arith) (omega arith))
+
+    reads-same : replyWords m (deedFor m s v) ≡ replyWords n (deedFor n s v)
+    unfolding deedOf targetOf
+    reads-same =
+        words-same m n (deedFor m s v)
+        (λ k.
+        e .words (placeOf (deedFor m s v .target .window) k)
+        (sound-place (length m) (stackWindow m s) (cellFor m s (v .command)) (sure s v x g f .cell) (target-sized m s v) k .stack))
+        ∙ rw aim-same
+
+    plan-same : planOf m s v ≡ planOf n s v
+    unfolding planOf entryOf
+    plan-same = rw (aim-same, pointer-same, block-same)
+
+    pub effect-same : effectOf s v x ≡ effectOf s v y
+    effect-same =
+        let p = done s v x g f .effect in
+        let q = done s v y h f .effect in
+        rw (p, q, plan-same, reads-same, aim-same)
+
+    pub step-same : Alike (stackWindow m s) (stepValue s v x .ram) (stepValue s v y .ram)
+    unfolding stackPointer
+    step-same =
+        let p = done s v x g f .ram in
+        let q = done s v y h f .ram in
+        let fm = sure s v x g f in
+        let fn = sure s v y h f in
+        rw (p, q)
+        (record {
+          long = after-length m s v ∙ e .long ∙ sym (after-length n s v);
+          words =
+              λ a o.
+              ⊎-elim
+              (λ (r : a ≡ stackPointerPlace (s .area)).
+              rw r (stack-moves m s v fm ∙ rw block-same (sym (stack-moves n s v fn))))
+              (λ (r : a ≡ stackPointerPlace (s .area) → ⊥).
+              beyond-stack m s v fm a o r
+              ∙ same-at a (deedWrites s (deedFor m s v) v) m n (e .long) (e .words a o)
+              ∙ rw aim-same (sym (beyond-stack n s v fn a (rw block-same at o) r)))
+              (eq-or-ne a (stackPointerPlace (s .area)));
+        })
+
+-- a whole run
+abbrev pub AllFormed : Settings → List Record → Type 0
+AllFormed s [] = Unit {0}
+AllFormed s (v ∷ vs) = Formed s v × AllFormed s vs
+
+pub all-formed : (s : Settings) (vs : List Record) → allWellFormed s vs ≡ true → AllFormed s vs
+unfolding allWellFormed
+all-formed s [] e = tt
+all-formed s (v ∷ vs) e =
+    (formed s v (and-left (wellFormed s v) (allWellFormed s vs) e), all-formed s vs (and-right (wellFormed s v) (allWellFormed s vs) e))
+
+-- a message keeps the stack's block
+pub step-keeps : (s : Settings) (v : Record) (x : State) → Good s x → Formed s v → Kept s (x .ram) (stepValue s v x .ram)
+step-keeps s v x g f = rw (done s v x g f .ram) (message-keeps (x .ram) s v (sure s v x g f))
+
+pub same-back : (v w : Window) → SameRun v w → SameRun w v
+same-back v w k = record { start = sym (k .start); size = sym (k .size) }
+
+pub run-same :
+    (s : Settings) (vs : List Record) (x y : State) →
+    Good s x →
+    Good s y →
+    AllFormed s vs →
+    Alike (stackWindow (x .ram) s) (x .ram) (y .ram) →
+    (effects s vs x ≡ effects s vs y) × Alike (stackWindow (x .ram) s) (run s vs x .ram) (run s vs y .ram)
+unfolding effects run
+run-same s [] x y g h f e = (refl, e)
+run-same s (v ∷ vs) x y g h f e =
+    let x₁ = stepValue s v x in
+    let y₁ = stepValue s v y in
+    let k = step-keeps s v x g (f .0) .stack in
+    let r =
+    run-same s vs x₁ y₁ (good-next s v x g (f .0)) (good-next s v y h (f .0)) (f .1)
+    (alike-block (stackWindow (x₁ .ram) s) (stackWindow (x .ram) s) (x₁ .ram) (y₁ .ram) k (step-same s v x y g h (f .0) e)) in (
+      rw (effect-same s v x y g h (f .0) e, r .0),
+      alike-block (stackWindow (x .ram) s) (stackWindow (x₁ .ram) s) (run s vs x₁ .ram) (run s vs y₁ .ram)
+          (same-back (stackWindow (x₁ .ram) s) (stackWindow (x .ram) s) k) (r .1),
+    )

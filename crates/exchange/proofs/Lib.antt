@@ -1,0 +1,9 @@
+pub mod Numbers
+pub mod Accept
+pub mod Alike
+pub mod Apart
+pub mod Swap
+pub mod Places
+pub mod Entries
+pub mod Runs
+pub mod Theorem
