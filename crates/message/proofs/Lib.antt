@@ -6,3 +6,6 @@ pub mod Motion
 pub mod Kept
 pub mod Replied
 pub mod Only
+pub mod Reach
+pub mod Carried
+pub mod Accepted

@@ -1,0 +1,18 @@
+use Rattle.message.specs.Answer.{acceptedOutcome, rememberedFrom}
+use native.Mathlib.Omega.{arith}
+use borrow.Author.Needs.{needs}
+use Rattle.message.proofs.answer.accepted_outcome.Statement.{statement}
+use Rattle.message.proofs.answer.accepted_outcome.Tie as tie
+use Rattle.message.proofs.answer.accepted_outcome.Reads as reads
+use Rattle.message.proofs.answer.accepted_outcome.Lts as lts
+use Rattle.message.proofs.answer.accepted_with.Reads as accepted-with-reads
+
+accepted-with-requires : tie.Need-accepted-with-requires
+accepted-with-requires c κs = search needs
+
+returns : tie.Need-returns
+unfolding acceptedOutcome rememberedFrom
+returns c = cc
+
+pub accepted-outcome-spec : {M : Type 1} → statement M
+accepted-outcome-spec = tie.close (tie.spec accepted-with-requires returns)

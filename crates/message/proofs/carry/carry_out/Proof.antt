@@ -1,0 +1,45 @@
+use Rattle.message.proofs.Carried.{plan-carried}
+use native.Mathlib.Omega.{arith}
+use borrow.Author.Needs.{needs}
+use Rattle.message.proofs.carry.carry_out.Statement.{statement}
+use Rattle.message.proofs.carry.carry_out.Tie as tie
+use Rattle.message.proofs.carry.carry_out.Reads as reads
+use Rattle.message.proofs.carry.carry_out.Lts as lts
+use Rattle.cells.proofs.map.stack_pointer_place.Reads as stack-pointer-place-reads
+use Rattle.cells.proofs.ram.put.Reads as put-reads
+use Rattle.message.proofs.carry.move_pointer.Reads as move-pointer-reads
+use Rattle.message.proofs.carry.put_entry.Reads as put-entry-reads
+use Rattle.message.proofs.carry.store_words.Reads as store-words-reads
+
+store-words-requires : tie.Need-store-words-requires
+store-words-requires c κs = search needs
+
+move-pointer-requires : tie.Need-move-pointer-requires
+move-pointer-requires c κs = search needs
+
+put-entry-requires : tie.Need-put-entry-requires
+put-entry-requires c κs = search needs
+
+stack-pointer-place-requires : tie.Need-stack-pointer-place-requires
+stack-pointer-place-requires c κs = search needs
+
+put-requires : tie.Need-put-requires
+put-requires c κs = search needs
+
+same-length : tie.Need-same-length
+same-length c = search needs
+
+returns : tie.Need-returns
+returns c = search plan-carried
+
+pub carry-out-spec : {M : Type 1} → statement M
+carry-out-spec =
+    tie.close
+    (tie.spec
+    store-words-requires
+    move-pointer-requires
+    put-entry-requires
+    stack-pointer-place-requires
+    put-requires
+    same-length
+    returns)

@@ -1,0 +1,32 @@
+use Rattle.message.specs.Deed.{actOf}
+use native.Mathlib.Omega.{arith}
+use borrow.Author.Needs.{needs}
+use Rattle.message.proofs.deed.act_of.Statement.{statement}
+use Rattle.message.proofs.deed.act_of.Tie as tie
+use Rattle.message.proofs.deed.act_of.Reads as reads
+use Rattle.message.proofs.deed.act_of.Lts as lts
+use Rattle.message.proofs.deed.act_with.Reads as act-with-reads
+use Rattle.message.proofs.fault.any_fault.Reads as any-fault-reads
+use Rattle.message.proofs.fault.faults_for.Reads as faults-for-reads
+use Rattle.words.proofs.choose.no.Reads as no-reads
+
+faults-for-requires : tie.Need-faults-for-requires
+faults-for-requires c κs = search needs
+
+any-fault-requires : tie.Need-any-fault-requires
+any-fault-requires c κs = search needs
+
+no-requires : tie.Need-no-requires
+no-requires c κs = search needs
+
+act-with-requires : tie.Need-act-with-requires
+act-with-requires c κs = search needs
+
+returns : tie.Need-returns
+unfolding actOf
+returns c = cc
+
+pub act-of-spec : {M : Type 1} → statement M
+act-of-spec =
+    tie.close
+    (tie.spec faults-for-requires any-fault-requires no-requires act-with-requires returns)

@@ -1,0 +1,32 @@
+use Rattle.message.specs.Deed.{actWith}
+use native.Mathlib.Omega.{arith}
+use borrow.Author.Needs.{needs}
+use Rattle.message.proofs.deed.act_with.Statement.{statement}
+use Rattle.message.proofs.deed.act_with.Tie as tie
+use Rattle.message.proofs.deed.act_with.Reads as reads
+use Rattle.message.proofs.deed.act_with.Lts as lts
+use Rattle.message.proofs.deed.words_sent.Reads as words-sent-reads
+use Rattle.message.proofs.deed.words_stored.Reads as words-stored-reads
+use Rattle.words.proofs.choose.pick.Reads as pick-reads
+use Rattle.words.proofs.command.transmit.Reads as transmit-reads
+
+words-stored-requires : tie.Need-words-stored-requires
+words-stored-requires c κs = search needs
+
+words-sent-requires : tie.Need-words-sent-requires
+words-sent-requires c κs = search needs
+
+transmit-requires : tie.Need-transmit-requires
+transmit-requires c κs = search needs
+
+pick-requires : tie.Need-pick-requires
+pick-requires c κs = search needs
+
+returns : tie.Need-returns
+unfolding actWith
+returns c = cc
+
+pub act-with-spec : {M : Type 1} → statement M
+act-with-spec =
+    tie.close
+    (tie.spec words-stored-requires words-sent-requires transmit-requires pick-requires returns)

@@ -1,0 +1,22 @@
+use Rattle.message.specs.Deed.{moves}
+use native.Mathlib.Omega.{arith}
+use borrow.Author.Needs.{needs}
+use Rattle.message.proofs.deed.moves_at.Statement.{statement}
+use Rattle.message.proofs.deed.moves_at.Tie as tie
+use Rattle.message.proofs.deed.moves_at.Reads as reads
+use Rattle.message.proofs.deed.moves_at.Lts as lts
+use Rattle.message.proofs.deed.may_move.Reads as may-move-reads
+use Rattle.words.proofs.choose.both.Reads as both-reads
+
+may-move-requires : tie.Need-may-move-requires
+may-move-requires c κs = search needs
+
+both-requires : tie.Need-both-requires
+both-requires c κs = search needs
+
+returns : tie.Need-returns
+unfolding moves
+returns c = cc
+
+pub moves-at-spec : {M : Type 1} → statement M
+moves-at-spec = tie.close (tie.spec may-move-requires both-requires returns)

@@ -1,0 +1,54 @@
+use Rattle.message.specs.Deed.{wordsSent}
+use native.Mathlib.Omega.{arith}
+use borrow.Author.Needs.{needs}
+use Rattle.message.proofs.deed.words_sent.Statement.{statement}
+use Rattle.message.proofs.deed.words_sent.Tie as tie
+use Rattle.message.proofs.deed.words_sent.Reads as reads
+use Rattle.message.proofs.deed.words_sent.Lts as lts
+use Rattle.words.proofs.choose.both.Reads as both-reads
+use Rattle.words.proofs.choose.no.Reads as no-reads
+use Rattle.words.proofs.choose.pick.Reads as pick-reads
+use Rattle.words.proofs.command.transmit.Reads as transmit-reads
+use Rattle.words.proofs.command.word_count.Reads as word-count-reads
+
+transmit-requires : tie.Need-transmit-requires
+transmit-requires c κs = search needs
+
+no-requires : tie.Need-no-requires
+no-requires c κs = search needs
+
+no-requires-2 : tie.Need-no-requires-2
+no-requires-2 c κs = search needs
+
+both-requires : tie.Need-both-requires
+both-requires c κs = search needs
+
+both-requires-2 : tie.Need-both-requires-2
+both-requires-2 c κs = search needs
+
+both-requires-3 : tie.Need-both-requires-3
+both-requires-3 c κs = search needs
+
+word-count-requires : tie.Need-word-count-requires
+word-count-requires c κs = search needs
+
+pick-requires : tie.Need-pick-requires
+pick-requires c κs = search needs
+
+returns : tie.Need-returns
+unfolding wordsSent
+returns c = cc
+
+pub words-sent-spec : {M : Type 1} → statement M
+words-sent-spec =
+    tie.close
+    (tie.spec
+    transmit-requires
+    no-requires
+    no-requires-2
+    both-requires
+    both-requires-2
+    both-requires-3
+    word-count-requires
+    pick-requires
+    returns)
