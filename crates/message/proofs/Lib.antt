@@ -9,3 +9,4 @@ pub mod Only
 pub mod Reach
 pub mod Carried
 pub mod Accepted
+pub mod FromBytes

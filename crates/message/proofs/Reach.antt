@@ -5,6 +5,7 @@ use native.Mathlib.Nat.{min-le-right}
 use mathlib.Core.Path.{_≡_}
 use mathlib.Core.Logic.{⊎-elim}
 use mathlib.Core.Bool.{_||_}
+use mathlib.Core.List.{List}
 use Rattle.words.specs.declared.value.Record.{Record}
 use Rattle.words.specs.declared.settings.Settings.{Settings}
 use Rattle.words.specs.Command.{transmits, subaddressOf, wordCount}
@@ -17,7 +18,9 @@ use Rattle.cells.specs.Kind.{cellNumber}
 use Rattle.cells.proofs.Wrap.{place-below}
 use Rattle.cells.proofs.Listed.{number-below}
 use Rattle.message.specs.declared.target.Target.{Target}
-use Rattle.message.specs.Deed.{withheld, wordsStored}
+use Rattle.message.specs.Target.{targetOf}
+use Rattle.message.specs.Deed.{withheld, wordsStored, actWith, actOf}
+use Rattle.message.specs.Plan.{deedOf, planOf}
 use Rattle.message.specs.Ready.{Addressed}
 
 pub place-fits : (w : Window) (k : ℕ) → Addressed w → placeOf w k < 65536
@@ -33,3 +36,7 @@ stored-fits s t v =
     (λ none. rw none (omega arith))
     (λ some. rw some (omega (arith, min-le-right (v .count) (wordCount (v .command)), word-count-to (v .command))))
     (yes-or-no (transmits (v .command) || withheld s t))
+
+pub plan-stored : (ram : List ℕ) (s : Settings) (v : Record) → planOf ram s v .deed .act .stored ≤ 32
+unfolding planOf deedOf actOf actWith
+plan-stored ram s v = stored-fits s (targetOf ram s (v .command)) v

@@ -1,11 +1,8 @@
-use Rattle.message.specs.Answer.{acceptedOutcome, rememberedFrom}
-use native.Mathlib.Omega.{arith}
+-- `accepted_outcome` meets its contract: the answer, and the command and status to remember.
 use borrow.Author.Needs.{needs}
+use Rattle.message.specs.Answer.{acceptedOutcome, rememberedFrom}
 use Rattle.message.proofs.answer.accepted_outcome.Statement.{statement}
 use Rattle.message.proofs.answer.accepted_outcome.Tie as tie
-use Rattle.message.proofs.answer.accepted_outcome.Reads as reads
-use Rattle.message.proofs.answer.accepted_outcome.Lts as lts
-use Rattle.message.proofs.answer.accepted_with.Reads as accepted-with-reads
 
 accepted-with-requires : tie.Need-accepted-with-requires
 accepted-with-requires c κs = search needs

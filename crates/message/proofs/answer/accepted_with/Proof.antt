@@ -1,11 +1,8 @@
-use Rattle.message.specs.Answer.{acceptedWith}
-use native.Mathlib.Omega.{arith}
+-- `accepted_with` meets its contract: the same words of the plan.
 use borrow.Author.Needs.{needs}
+use Rattle.message.specs.Answer.{acceptedWith}
 use Rattle.message.proofs.answer.accepted_with.Statement.{statement}
 use Rattle.message.proofs.answer.accepted_with.Tie as tie
-use Rattle.message.proofs.answer.accepted_with.Reads as reads
-use Rattle.message.proofs.answer.accepted_with.Lts as lts
-use Rattle.message.proofs.report.interrupt_word.Reads as interrupt-word-reads
 
 interrupt-word-requires : tie.Need-interrupt-word-requires
 interrupt-word-requires c κs = search needs

@@ -1,14 +1,8 @@
-use Rattle.message.specs.Answer.{cellUnsound}
-use native.Mathlib.Omega.{arith}
+-- `cell_unsound` meets its contract: the soundness test of the cell that the command uses.
 use borrow.Author.Needs.{needs}
+use Rattle.message.specs.Answer.{cellUnsound}
 use Rattle.message.proofs.answer.cell_unsound.Statement.{statement}
 use Rattle.message.proofs.answer.cell_unsound.Tie as tie
-use Rattle.message.proofs.answer.cell_unsound.Reads as reads
-use Rattle.message.proofs.answer.cell_unsound.Lts as lts
-use Rattle.cells.proofs.cell.sound_cell.Reads as sound-cell-reads
-use Rattle.cells.proofs.stack.stack_window.Reads as stack-window-reads
-use Rattle.message.proofs.target.cell_for.Reads as cell-for-reads
-use Rattle.words.proofs.choose.no.Reads as no-reads
 
 stack-window-requires : tie.Need-stack-window-requires
 stack-window-requires c κs = search needs

@@ -1,18 +1,8 @@
-use Rattle.message.specs.Answer.{refusalFor, groundsFor}
-use native.Mathlib.Omega.{arith}
+-- `refusal_for` meets its contract: the first of the nine tests that holds.
 use borrow.Author.Needs.{needs}
+use Rattle.message.specs.Answer.{refusalFor, groundsFor}
 use Rattle.message.proofs.answer.refusal_for.Statement.{statement}
 use Rattle.message.proofs.answer.refusal_for.Tie as tie
-use Rattle.message.proofs.answer.refusal_for.Reads as reads
-use Rattle.message.proofs.answer.refusal_for.Lts as lts
-use Rattle.cells.proofs.map.ram_refused.Reads as ram-refused-reads
-use Rattle.cells.proofs.stack.stack_sound.Reads as stack-sound-reads
-use Rattle.message.proofs.answer.cell_unsound.Reads as cell-unsound-reads
-use Rattle.words.proofs.choose.no.Reads as no-reads
-use Rattle.words.proofs.command.mode_subaddress.Reads as mode-subaddress-reads
-use Rattle.words.proofs.refusal.first_refusal.Reads as first-refusal-reads
-use Rattle.words.proofs.settings.is_not_ours.Reads as is-not-ours-reads
-use Rattle.words.proofs.settings.settings_refused.Reads as settings-refused-reads
 
 ram-refused-requires : tie.Need-ram-refused-requires
 ram-refused-requires c κs = search needs

@@ -1,15 +1,8 @@
-use Rattle.message.proofs.Carried.{plan-carried}
-use native.Mathlib.Omega.{arith}
+-- `carry_out` meets its contract: the parts of the list of writes, one after the other.
 use borrow.Author.Needs.{needs}
+use Rattle.message.proofs.Carried.{plan-carried}
 use Rattle.message.proofs.carry.carry_out.Statement.{statement}
 use Rattle.message.proofs.carry.carry_out.Tie as tie
-use Rattle.message.proofs.carry.carry_out.Reads as reads
-use Rattle.message.proofs.carry.carry_out.Lts as lts
-use Rattle.cells.proofs.map.stack_pointer_place.Reads as stack-pointer-place-reads
-use Rattle.cells.proofs.ram.put.Reads as put-reads
-use Rattle.message.proofs.carry.move_pointer.Reads as move-pointer-reads
-use Rattle.message.proofs.carry.put_entry.Reads as put-entry-reads
-use Rattle.message.proofs.carry.store_words.Reads as store-words-reads
 
 store-words-requires : tie.Need-store-words-requires
 store-words-requires c κs = search needs

@@ -1,13 +1,10 @@
+-- `move_pointer` meets its contract: one write, or none.
+use borrow.Author.Needs.{needs}
+use native.Mathlib.Omega.{arith}
 use Rattle.cells.proofs.Places.{table-low}
 use Rattle.message.proofs.Carried.{pointer-moved, pointer-kept}
-use native.Mathlib.Omega.{arith}
-use borrow.Author.Needs.{needs}
 use Rattle.message.proofs.carry.move_pointer.Statement.{statement}
 use Rattle.message.proofs.carry.move_pointer.Tie as tie
-use Rattle.message.proofs.carry.move_pointer.Reads as reads
-use Rattle.message.proofs.carry.move_pointer.Lts as lts
-use Rattle.cells.proofs.map.lookup_table.Reads as lookup-table-reads
-use Rattle.cells.proofs.ram.put.Reads as put-reads
 
 lookup-table-requires : tie.Need-lookup-table-requires
 lookup-table-requires c κs = search needs

@@ -1,11 +1,8 @@
-use Rattle.message.proofs.Carried.{entry-put}
-use native.Mathlib.Omega.{arith}
+-- `put_entry` meets its contract: four writes in a row.
 use borrow.Author.Needs.{needs}
+use Rattle.message.proofs.Carried.{entry-put}
 use Rattle.message.proofs.carry.put_entry.Statement.{statement}
 use Rattle.message.proofs.carry.put_entry.Tie as tie
-use Rattle.message.proofs.carry.put_entry.Reads as reads
-use Rattle.message.proofs.carry.put_entry.Lts as lts
-use Rattle.cells.proofs.ram.put.Reads as put-reads
 
 cast-at : tie.Need-cast-at
 cast-at c = search needs

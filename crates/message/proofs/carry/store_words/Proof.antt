@@ -1,16 +1,12 @@
 -- `store_words` meets its contract. The loop's invariant: the first `k` writes are made.
+use borrow.Author.Needs.{needs}
 use Prim.Native.Nat.{_≤_, _-_}
+use native.Mathlib.Omega.{arith}
 use mathlib.Core.Path.{_≡_, refl}
 use Rattle.message.specs.Writes.{applyWrites, writesTo, dataWrites}
 use Rattle.message.proofs.Writes.{apply-more, length-apply}
-use borrow.Author.Needs.{needs}
-use native.Mathlib.Omega.{arith}
 use Rattle.message.proofs.carry.store_words.Statement.{statement}
 use Rattle.message.proofs.carry.store_words.Tie as tie
-use Rattle.message.proofs.carry.store_words.Reads as reads
-use Rattle.message.proofs.carry.store_words.Lts as lts
-use Rattle.cells.proofs.ram.put.Reads as put-reads
-use Rattle.cells.proofs.window.place.Reads as place-reads
 
 abbrev Inv-loop : tie.InvT-loop
 Inv-loop ram₀ w n words k₀ ram k = (k ≤ n) × (ram ≡ applyWrites (dataWrites w words k) ram₀)

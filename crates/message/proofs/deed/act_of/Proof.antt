@@ -1,14 +1,8 @@
-use Rattle.message.specs.Deed.{actOf}
-use native.Mathlib.Omega.{arith}
+-- `act_of` meets its contract: the faults, and what follows of them.
 use borrow.Author.Needs.{needs}
+use Rattle.message.specs.Deed.{actOf}
 use Rattle.message.proofs.deed.act_of.Statement.{statement}
 use Rattle.message.proofs.deed.act_of.Tie as tie
-use Rattle.message.proofs.deed.act_of.Reads as reads
-use Rattle.message.proofs.deed.act_of.Lts as lts
-use Rattle.message.proofs.deed.act_with.Reads as act-with-reads
-use Rattle.message.proofs.fault.any_fault.Reads as any-fault-reads
-use Rattle.message.proofs.fault.faults_for.Reads as faults-for-reads
-use Rattle.words.proofs.choose.no.Reads as no-reads
 
 faults-for-requires : tie.Need-faults-for-requires
 faults-for-requires c κs = search needs

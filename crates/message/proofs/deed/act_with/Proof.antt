@@ -1,14 +1,8 @@
-use Rattle.message.specs.Deed.{actWith}
-use native.Mathlib.Omega.{arith}
+-- `act_with` meets its contract: words stored, words sent, and k.
 use borrow.Author.Needs.{needs}
+use Rattle.message.specs.Deed.{actWith}
 use Rattle.message.proofs.deed.act_with.Statement.{statement}
 use Rattle.message.proofs.deed.act_with.Tie as tie
-use Rattle.message.proofs.deed.act_with.Reads as reads
-use Rattle.message.proofs.deed.act_with.Lts as lts
-use Rattle.message.proofs.deed.words_sent.Reads as words-sent-reads
-use Rattle.message.proofs.deed.words_stored.Reads as words-stored-reads
-use Rattle.words.proofs.choose.pick.Reads as pick-reads
-use Rattle.words.proofs.command.transmit.Reads as transmit-reads
 
 words-stored-requires : tie.Need-words-stored-requires
 words-stored-requires c κs = search needs

@@ -1,12 +1,8 @@
-use Rattle.message.specs.Deed.{withheld}
-use native.Mathlib.Omega.{arith}
+-- `is_withheld` meets its contract: the same yes and no.
 use borrow.Author.Needs.{needs}
+use Rattle.message.specs.Deed.{withheld}
 use Rattle.message.proofs.deed.is_withheld.Statement.{statement}
 use Rattle.message.proofs.deed.is_withheld.Tie as tie
-use Rattle.message.proofs.deed.is_withheld.Reads as reads
-use Rattle.message.proofs.deed.is_withheld.Lts as lts
-use Rattle.words.proofs.choose.both.Reads as both-reads
-use Rattle.words.proofs.choose.either.Reads as either-reads
 
 both-requires : tie.Need-both-requires
 both-requires c κs = search needs

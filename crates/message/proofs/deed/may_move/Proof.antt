@@ -1,12 +1,8 @@
-use Rattle.message.specs.Deed.{mayMove}
-use native.Mathlib.Omega.{arith}
+-- `may_move` meets its contract, scheme by scheme.
 use borrow.Author.Needs.{needs}
+use Rattle.message.specs.Deed.{mayMove}
 use Rattle.message.proofs.deed.may_move.Statement.{statement}
 use Rattle.message.proofs.deed.may_move.Tie as tie
-use Rattle.message.proofs.deed.may_move.Reads as reads
-use Rattle.message.proofs.deed.may_move.Lts as lts
-use Rattle.words.proofs.choose.either.Reads as either-reads
-use Rattle.words.proofs.choose.no.Reads as no-reads
 
 enum-told : tie.Need-enum-told
 enum-told c = search needs

@@ -1,12 +1,8 @@
-use Rattle.message.specs.Deed.{motionOf}
-use native.Mathlib.Omega.{arith}
+-- `motion_of` meets its contract: the motion of the target's cell.
 use borrow.Author.Needs.{needs}
+use Rattle.message.specs.Deed.{motionOf}
 use Rattle.message.proofs.deed.motion_of.Statement.{statement}
 use Rattle.message.proofs.deed.motion_of.Tie as tie
-use Rattle.message.proofs.deed.motion_of.Reads as reads
-use Rattle.message.proofs.deed.motion_of.Lts as lts
-use Rattle.message.proofs.deed.motion_with.Reads as motion-with-reads
-use Rattle.message.proofs.deed.moves_at.Reads as moves-at-reads
 
 moves-at-requires : tie.Need-moves-at-requires
 moves-at-requires c κs = search needs

@@ -1,17 +1,10 @@
-use Rattle.message.proofs.Reach.{place-fits}
-use Rattle.message.specs.Deed.{motionWith}
-use native.Mathlib.Omega.{arith}
+-- `motion_with` meets its contract: the next place is a 16-bit address, since the window is.
 use borrow.Author.Needs.{needs}
+use native.Mathlib.Omega.{arith}
+use Rattle.message.specs.Deed.{motionWith}
+use Rattle.message.proofs.Reach.{place-fits}
 use Rattle.message.proofs.deed.motion_with.Statement.{statement}
 use Rattle.message.proofs.deed.motion_with.Tie as tie
-use Rattle.message.proofs.deed.motion_with.Reads as reads
-use Rattle.message.proofs.deed.motion_with.Lts as lts
-use Rattle.cells.proofs.window.place.Reads as place-reads
-use Rattle.cells.proofs.window.rolls_over.Reads as rolls-over-reads
-use Rattle.message.proofs.deed.is_circular.Reads as is-circular-reads
-use Rattle.message.proofs.deed.stride_of.Reads as stride-of-reads
-use Rattle.words.proofs.choose.both.Reads as both-reads
-use Rattle.words.proofs.choose.pick.Reads as pick-reads
 
 stride-of-requires : tie.Need-stride-of-requires
 stride-of-requires c κs = search needs

@@ -1,12 +1,8 @@
-use Rattle.message.specs.Deed.{moves}
-use native.Mathlib.Omega.{arith}
+-- `moves_at` meets its contract: the scheme's rule, and k > 0.
 use borrow.Author.Needs.{needs}
+use Rattle.message.specs.Deed.{moves}
 use Rattle.message.proofs.deed.moves_at.Statement.{statement}
 use Rattle.message.proofs.deed.moves_at.Tie as tie
-use Rattle.message.proofs.deed.moves_at.Reads as reads
-use Rattle.message.proofs.deed.moves_at.Lts as lts
-use Rattle.message.proofs.deed.may_move.Reads as may-move-reads
-use Rattle.words.proofs.choose.both.Reads as both-reads
 
 may-move-requires : tie.Need-may-move-requires
 may-move-requires c κs = search needs

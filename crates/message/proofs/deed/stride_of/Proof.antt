@@ -1,10 +1,8 @@
-use Rattle.message.specs.Deed.{stride}
-use native.Mathlib.Omega.{arith}
+-- `stride_of` meets its contract, scheme by scheme.
 use borrow.Author.Needs.{needs}
+use Rattle.message.specs.Deed.{stride}
 use Rattle.message.proofs.deed.stride_of.Statement.{statement}
 use Rattle.message.proofs.deed.stride_of.Tie as tie
-use Rattle.message.proofs.deed.stride_of.Reads as reads
-use Rattle.message.proofs.deed.stride_of.Lts as lts
 
 enum-told : tie.Need-enum-told
 enum-told c = search needs

@@ -1,15 +1,8 @@
-use Rattle.message.specs.Deed.{wordsSent}
-use native.Mathlib.Omega.{arith}
+-- `words_sent` meets its contract: rule 4's count.
 use borrow.Author.Needs.{needs}
+use Rattle.message.specs.Deed.{wordsSent}
 use Rattle.message.proofs.deed.words_sent.Statement.{statement}
 use Rattle.message.proofs.deed.words_sent.Tie as tie
-use Rattle.message.proofs.deed.words_sent.Reads as reads
-use Rattle.message.proofs.deed.words_sent.Lts as lts
-use Rattle.words.proofs.choose.both.Reads as both-reads
-use Rattle.words.proofs.choose.no.Reads as no-reads
-use Rattle.words.proofs.choose.pick.Reads as pick-reads
-use Rattle.words.proofs.command.transmit.Reads as transmit-reads
-use Rattle.words.proofs.command.word_count.Reads as word-count-reads
 
 transmit-requires : tie.Need-transmit-requires
 transmit-requires c κs = search needs

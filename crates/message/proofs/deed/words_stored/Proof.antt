@@ -1,16 +1,8 @@
-use Rattle.message.specs.Deed.{wordsStored}
-use native.Mathlib.Omega.{arith}
+-- `words_stored` meets its contract: rule 3's count.
 use borrow.Author.Needs.{needs}
+use Rattle.message.specs.Deed.{wordsStored}
 use Rattle.message.proofs.deed.words_stored.Statement.{statement}
 use Rattle.message.proofs.deed.words_stored.Tie as tie
-use Rattle.message.proofs.deed.words_stored.Reads as reads
-use Rattle.message.proofs.deed.words_stored.Lts as lts
-use Rattle.message.proofs.deed.is_withheld.Reads as is-withheld-reads
-use Rattle.message.proofs.deed.smaller.Reads as smaller-reads
-use Rattle.words.proofs.choose.either.Reads as either-reads
-use Rattle.words.proofs.choose.pick.Reads as pick-reads
-use Rattle.words.proofs.command.transmit.Reads as transmit-reads
-use Rattle.words.proofs.command.word_count.Reads as word-count-reads
 
 transmit-requires : tie.Need-transmit-requires
 transmit-requires c κs = search needs

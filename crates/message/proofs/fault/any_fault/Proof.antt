@@ -1,11 +1,8 @@
-use Rattle.message.specs.Fault.{anyFault}
-use native.Mathlib.Omega.{arith}
+-- `any_fault` meets its contract: the same four flags.
 use borrow.Author.Needs.{needs}
+use Rattle.message.specs.Fault.{anyFault}
 use Rattle.message.proofs.fault.any_fault.Statement.{statement}
 use Rattle.message.proofs.fault.any_fault.Tie as tie
-use Rattle.message.proofs.fault.any_fault.Reads as reads
-use Rattle.message.proofs.fault.any_fault.Lts as lts
-use Rattle.words.proofs.choose.either.Reads as either-reads
 
 either-requires : tie.Need-either-requires
 either-requires c κs = search needs

@@ -1,13 +1,8 @@
-use Rattle.message.specs.Fault.{expectedWords}
-use native.Mathlib.Omega.{arith}
+-- `expected_words` meets its contract: 0 for transmit.
 use borrow.Author.Needs.{needs}
+use Rattle.message.specs.Fault.{expectedWords}
 use Rattle.message.proofs.fault.expected_words.Statement.{statement}
 use Rattle.message.proofs.fault.expected_words.Tie as tie
-use Rattle.message.proofs.fault.expected_words.Reads as reads
-use Rattle.message.proofs.fault.expected_words.Lts as lts
-use Rattle.words.proofs.choose.pick.Reads as pick-reads
-use Rattle.words.proofs.command.transmit.Reads as transmit-reads
-use Rattle.words.proofs.command.word_count.Reads as word-count-reads
 
 transmit-requires : tie.Need-transmit-requires
 transmit-requires c κs = search needs

@@ -1,14 +1,8 @@
-use Rattle.message.specs.Fault.{faultsFor}
-use native.Mathlib.Omega.{arith}
+-- `faults_for` meets its contract: what the command expects.
 use borrow.Author.Needs.{needs}
+use Rattle.message.specs.Fault.{faultsFor}
 use Rattle.message.proofs.fault.faults_for.Statement.{statement}
 use Rattle.message.proofs.fault.faults_for.Tie as tie
-use Rattle.message.proofs.fault.faults_for.Reads as reads
-use Rattle.message.proofs.fault.faults_for.Lts as lts
-use Rattle.message.proofs.fault.expected_words.Reads as expected-words-reads
-use Rattle.message.proofs.fault.faults_of.Reads as faults-of-reads
-use Rattle.words.proofs.choose.both.Reads as both-reads
-use Rattle.words.proofs.command.transmit.Reads as transmit-reads
 
 expected-words-requires : tie.Need-expected-words-requires
 expected-words-requires c κs = search needs

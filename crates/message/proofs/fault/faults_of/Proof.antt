@@ -1,15 +1,8 @@
-use Rattle.message.specs.Fault.{faultsOf}
-use native.Mathlib.Omega.{arith}
+-- `faults_of` meets its contract: the same four tests.
 use borrow.Author.Needs.{needs}
+use Rattle.message.specs.Fault.{faultsOf}
 use Rattle.message.proofs.fault.faults_of.Statement.{statement}
 use Rattle.message.proofs.fault.faults_of.Tie as tie
-use Rattle.message.proofs.fault.faults_of.Reads as reads
-use Rattle.message.proofs.fault.faults_of.Lts as lts
-use Rattle.words.proofs.choose.both.Reads as both-reads
-use Rattle.words.proofs.choose.either.Reads as either-reads
-use Rattle.words.proofs.choose.no.Reads as no-reads
-use Rattle.words.proofs.value.invalid_word.Reads as invalid-word-reads
-use Rattle.words.proofs.value.wrong_sync.Reads as wrong-sync-reads
 
 wrong-sync-requires : tie.Need-wrong-sync-requires
 wrong-sync-requires c κs = search needs

@@ -1,13 +1,8 @@
-use Rattle.message.specs.Plan.{deedOf}
-use native.Mathlib.Omega.{arith}
+-- `deed_of` meets its contract: act, motion and report, each of the ones before.
 use borrow.Author.Needs.{needs}
+use Rattle.message.specs.Plan.{deedOf}
 use Rattle.message.proofs.plan.deed_of.Statement.{statement}
 use Rattle.message.proofs.plan.deed_of.Tie as tie
-use Rattle.message.proofs.plan.deed_of.Reads as reads
-use Rattle.message.proofs.plan.deed_of.Lts as lts
-use Rattle.message.proofs.deed.act_of.Reads as act-of-reads
-use Rattle.message.proofs.deed.motion_of.Reads as motion-of-reads
-use Rattle.message.proofs.report.report_of.Reads as report-of-reads
 
 act-of-requires : tie.Need-act-of-requires
 act-of-requires c κs = search needs

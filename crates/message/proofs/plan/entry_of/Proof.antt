@@ -1,15 +1,10 @@
-use Rattle.message.proofs.Reach.{place-fits}
-use Rattle.message.specs.Plan.{entryOf}
-use native.Mathlib.Omega.{arith}
+-- `entry_of` meets its contract: the next place of the stack is a 16-bit address, since the block is.
 use borrow.Author.Needs.{needs}
+use native.Mathlib.Omega.{arith}
+use Rattle.message.specs.Plan.{entryOf}
+use Rattle.message.proofs.Reach.{place-fits}
 use Rattle.message.proofs.plan.entry_of.Statement.{statement}
 use Rattle.message.proofs.plan.entry_of.Tie as tie
-use Rattle.message.proofs.plan.entry_of.Reads as reads
-use Rattle.message.proofs.plan.entry_of.Lts as lts
-use Rattle.cells.proofs.stack.stack_pointer.Reads as stack-pointer-reads
-use Rattle.cells.proofs.stack.stack_window.Reads as stack-window-reads
-use Rattle.cells.proofs.window.place.Reads as place-reads
-use Rattle.cells.proofs.window.rolls_over.Reads as rolls-over-reads
 
 stack-window-requires : tie.Need-stack-window-requires
 stack-window-requires c κs = search needs

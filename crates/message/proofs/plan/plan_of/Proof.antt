@@ -1,13 +1,8 @@
-use Rattle.message.specs.Plan.{planOf}
-use native.Mathlib.Omega.{arith}
+-- `plan_of` meets its contract: target, deed and entry.
 use borrow.Author.Needs.{needs}
+use Rattle.message.specs.Plan.{planOf}
 use Rattle.message.proofs.plan.plan_of.Statement.{statement}
 use Rattle.message.proofs.plan.plan_of.Tie as tie
-use Rattle.message.proofs.plan.plan_of.Reads as reads
-use Rattle.message.proofs.plan.plan_of.Lts as lts
-use Rattle.message.proofs.plan.deed_of.Reads as deed-of-reads
-use Rattle.message.proofs.plan.entry_of.Reads as entry-of-reads
-use Rattle.message.proofs.target.target_of.Reads as target-of-reads
 
 target-of-requires : tie.Need-target-of-requires
 target-of-requires c κs = search needs

@@ -1,12 +1,8 @@
-use Rattle.message.proofs.Carried.{reply-sent, reply-none}
-use native.Mathlib.Omega.{arith}
+-- `send` meets its contract: the status and then the words, or nothing.
 use borrow.Author.Needs.{needs}
+use Rattle.message.proofs.Carried.{reply-sent, reply-none}
 use Rattle.message.proofs.reply.send.Statement.{statement}
 use Rattle.message.proofs.reply.send.Tie as tie
-use Rattle.message.proofs.reply.send.Reads as reads
-use Rattle.message.proofs.reply.send.Lts as lts
-use Rattle.cells.proofs.ram.put.Reads as put-reads
-use Rattle.message.proofs.reply.send_words.Reads as send-words-reads
 
 put-requires : tie.Need-put-requires
 put-requires c κs = search needs

@@ -1,18 +1,13 @@
 -- `send_words` meets its contract. The loop's invariant: the first `k` words are in the reply.
+use borrow.Author.Needs.{needs}
 use Prim.Native.Nat.{_≤_, _-_}
+use native.Mathlib.Omega.{arith}
 use mathlib.Core.Path.{_≡_, refl}
 use Rattle.message.specs.Writes.{applyWrites, writesTo}
 use Rattle.message.specs.Reply.{sentWrites}
 use Rattle.message.proofs.Writes.{apply-more, length-apply}
-use borrow.Author.Needs.{needs}
-use native.Mathlib.Omega.{arith}
 use Rattle.message.proofs.reply.send_words.Statement.{statement}
 use Rattle.message.proofs.reply.send_words.Tie as tie
-use Rattle.message.proofs.reply.send_words.Reads as reads
-use Rattle.message.proofs.reply.send_words.Lts as lts
-use Rattle.cells.proofs.ram.put.Reads as put-reads
-use Rattle.cells.proofs.ram.word_at.Reads as word-at-reads
-use Rattle.cells.proofs.window.place.Reads as place-reads
 
 abbrev Inv-loop : tie.InvT-loop
 Inv-loop ram reply₀ w n k₀ reply k = (k ≤ n) × (reply ≡ applyWrites (sentWrites ram w k) reply₀)

@@ -1,12 +1,8 @@
-use Rattle.message.specs.Report.{blockStatus}
-use native.Mathlib.Omega.{arith}
+-- `block_status` meets its contract: the same bits at the same places.
 use borrow.Author.Needs.{needs}
+use Rattle.message.specs.Report.{blockStatus}
 use Rattle.message.proofs.report.block_status.Statement.{statement}
 use Rattle.message.proofs.report.block_status.Tie as tie
-use Rattle.message.proofs.report.block_status.Reads as reads
-use Rattle.message.proofs.report.block_status.Lts as lts
-use Rattle.message.proofs.fault.any_fault.Reads as any-fault-reads
-use Rattle.message.proofs.report.bit_of.Reads as bit-of-reads
 
 bit-of-requires : tie.Need-bit-of-requires
 bit-of-requires c κs = search needs

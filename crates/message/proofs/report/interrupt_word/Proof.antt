@@ -1,13 +1,8 @@
-use Rattle.message.specs.Report.{interruptWord}
-use native.Mathlib.Omega.{arith}
+-- `interrupt_word` meets its contract: the same bits at the same places.
 use borrow.Author.Needs.{needs}
+use Rattle.message.specs.Report.{interruptWord}
 use Rattle.message.proofs.report.interrupt_word.Statement.{statement}
 use Rattle.message.proofs.report.interrupt_word.Tie as tie
-use Rattle.message.proofs.report.interrupt_word.Reads as reads
-use Rattle.message.proofs.report.interrupt_word.Lts as lts
-use Rattle.message.proofs.report.bit_of.Reads as bit-of-reads
-use Rattle.words.proofs.choose.both.Reads as both-reads
-use Rattle.words.proofs.choose.no.Reads as no-reads
 
 bit-of-requires : tie.Need-bit-of-requires
 bit-of-requires c κs = search needs

@@ -1,15 +1,8 @@
-use Rattle.message.specs.Report.{reportOf}
-use native.Mathlib.Omega.{arith}
+-- `report_of` meets its contract: the two words and the mark for sent.
 use borrow.Author.Needs.{needs}
+use Rattle.message.specs.Report.{reportOf}
 use Rattle.message.proofs.report.report_of.Statement.{statement}
 use Rattle.message.proofs.report.report_of.Tie as tie
-use Rattle.message.proofs.report.report_of.Reads as reads
-use Rattle.message.proofs.report.report_of.Lts as lts
-use Rattle.message.proofs.report.block_status.Reads as block-status-reads
-use Rattle.message.proofs.report.status_word.Reads as status-word-reads
-use Rattle.words.proofs.choose.both.Reads as both-reads
-use Rattle.words.proofs.choose.no.Reads as no-reads
-use Rattle.words.proofs.value.bus_b.Reads as bus-b-reads
 
 bus-b-requires : tie.Need-bus-b-requires
 bus-b-requires c κs = search needs

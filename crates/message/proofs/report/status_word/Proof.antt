@@ -1,13 +1,8 @@
-use Rattle.message.specs.Report.{statusWord}
-use native.Mathlib.Omega.{arith}
+-- `status_word` meets its contract: the same bits at the same places.
 use borrow.Author.Needs.{needs}
+use Rattle.message.specs.Report.{statusWord}
 use Rattle.message.proofs.report.status_word.Statement.{statement}
 use Rattle.message.proofs.report.status_word.Tie as tie
-use Rattle.message.proofs.report.status_word.Reads as reads
-use Rattle.message.proofs.report.status_word.Lts as lts
-use Rattle.message.proofs.report.bit_of.Reads as bit-of-reads
-use Rattle.words.proofs.choose.either.Reads as either-reads
-use Rattle.words.proofs.choose.no.Reads as no-reads
 
 mul-result : tie.Need-mul-result
 mul-result c = search needs

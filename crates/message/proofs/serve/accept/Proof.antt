@@ -1,13 +1,8 @@
-use native.Mathlib.Omega.{arith}
+-- `accept` meets its contract: the plan's answer, its writes and its reply.
 use borrow.Author.Needs.{needs}
+use Rattle.message.proofs.Reach.{plan-stored}
 use Rattle.message.proofs.serve.accept.Statement.{statement}
 use Rattle.message.proofs.serve.accept.Tie as tie
-use Rattle.message.proofs.serve.accept.Reads as reads
-use Rattle.message.proofs.serve.accept.Lts as lts
-use Rattle.message.proofs.answer.accepted_outcome.Reads as accepted-outcome-reads
-use Rattle.message.proofs.carry.carry_out.Reads as carry-out-reads
-use Rattle.message.proofs.plan.plan_of.Reads as plan-of-reads
-use Rattle.message.proofs.reply.send.Reads as send-reads
 
 plan-of-requires : tie.Need-plan-of-requires
 plan-of-requires c κs = search needs
@@ -16,7 +11,8 @@ send-requires : tie.Need-send-requires
 send-requires c κs = search needs
 
 carry-out-requires : tie.Need-carry-out-requires
-carry-out-requires c κs = search needs
+carry-out-requires c κs =
+    rw (c .before .before .before .before .before .before .before .plan-of .ensures) (plan-stored _ _ _)
 
 accepted-outcome-requires : tie.Need-accepted-outcome-requires
 accepted-outcome-requires c κs = search needs
@@ -28,7 +24,7 @@ same-length-2 : tie.Need-same-length-2
 same-length-2 c = search needs
 
 returns : tie.Need-returns
-returns c = search needs
+returns c = (cc, (cc, cc))
 
 pub accept-spec : {M : Type 1} → statement M
 accept-spec =

@@ -1,11 +1,9 @@
-use native.Mathlib.Omega.{arith}
+-- `message_from_bytes` meets its contract: the reader's answer stands for tests 4 and 5.
 use borrow.Author.Needs.{needs}
+use mathlib.Core.Path.{_∙_}
+use Rattle.message.proofs.FromBytes.{outcome-read, ram-read, reply-read}
 use Rattle.message.proofs.serve.message_from_bytes.Statement.{statement}
 use Rattle.message.proofs.serve.message_from_bytes.Tie as tie
-use Rattle.message.proofs.serve.message_from_bytes.Reads as reads
-use Rattle.message.proofs.serve.message_from_bytes.Lts as lts
-use Rattle.message.proofs.serve.serve.Reads as serve-reads
-use Rattle.words.proofs.reader.read.Reads as read-reads
 
 read-requires : tie.Need-read-requires
 read-requires c κs = search needs
@@ -20,7 +18,18 @@ same-length-2 : tie.Need-same-length-2
 same-length-2 c = search needs
 
 returns : tie.Need-returns
-returns c = search needs
+returns c =
+    let e = c .before .before .before .before .before .before .before .before .before .before .read .ensures in
+    let a = c .before .before .before .before .before .before .before .before .before .before .before .before .before .before .args in
+    let k = c .before .before .before .before .serve .ensures in
+    let ram = a .ram .now in
+    let reply = a .reply .now in (
+      k .0 ∙ outcome-read ram reply (a .s) (a .before) (a .bytes .now) _ e,
+      (
+        k .1 .0 ∙ ram-read ram reply (a .s) (a .before) (a .bytes .now) _ e,
+        k .1 .1 ∙ reply-read ram reply (a .s) (a .before) (a .bytes .now) _ e,
+      ),
+    )
 
 pub message-from-bytes-spec : {M : Type 1} → statement M
 message-from-bytes-spec =

@@ -1,12 +1,8 @@
-use native.Mathlib.Omega.{arith}
+-- `message_from_value` meets its contract: no test 4, and 5 where the value breaks the layout.
 use borrow.Author.Needs.{needs}
+use Rattle.message.specs.Message.{outcomeOfValue, ramAfterValue, replyAfterValue}
 use Rattle.message.proofs.serve.message_from_value.Statement.{statement}
 use Rattle.message.proofs.serve.message_from_value.Tie as tie
-use Rattle.message.proofs.serve.message_from_value.Reads as reads
-use Rattle.message.proofs.serve.message_from_value.Lts as lts
-use Rattle.message.proofs.serve.serve.Reads as serve-reads
-use Rattle.words.proofs.choose.no.Reads as no-reads
-use Rattle.words.proofs.value.keeps_layout.Reads as keeps-layout-reads
 
 keeps-layout-requires : tie.Need-keeps-layout-requires
 keeps-layout-requires c κs = search needs
@@ -24,7 +20,8 @@ same-length-2 : tie.Need-same-length-2
 same-length-2 c = search needs
 
 returns : tie.Need-returns
-returns c = search needs
+unfolding outcomeOfValue ramAfterValue replyAfterValue
+returns c = (cc, (cc, cc))
 
 pub message-from-value-spec : {M : Type 1} → statement M
 message-from-value-spec =

@@ -1,12 +1,11 @@
-use native.Mathlib.Omega.{arith}
+-- `serve` meets its contract: accepted where the number is 0, and else nothing is touched.
 use borrow.Author.Needs.{needs}
+use mathlib.Core.Path.{_∙_, sym}
+use borrow.Author.Tests.{eq-eqb, ne-eqb}
+use Rattle.message.specs.Answer.{outcomeFor, ramFor, replyFor}
+use Rattle.message.proofs.Accepted.{accepted-ready}
 use Rattle.message.proofs.serve.serve.Statement.{statement}
 use Rattle.message.proofs.serve.serve.Tie as tie
-use Rattle.message.proofs.serve.serve.Reads as reads
-use Rattle.message.proofs.serve.serve.Lts as lts
-use Rattle.message.proofs.answer.refusal_for.Reads as refusal-for-reads
-use Rattle.message.proofs.answer.refused_with.Reads as refused-with-reads
-use Rattle.message.proofs.serve.accept.Reads as accept-reads
 
 refusal-for-requires : tie.Need-refusal-for-requires
 refusal-for-requires c κs = search needs
@@ -18,10 +17,16 @@ same-length : tie.Need-same-length
 same-length c = search needs
 
 returns : tie.Need-returns
-returns c = search needs
+unfolding outcomeFor ramFor replyFor
+returns c =
+    let e = c .before .before .refusal-for .ensures in
+    let n = ne-eqb _ _ (c .before .if1 .taken) in
+    (simp (← e, n) (cc), (simp (← e, n), simp (← e, n)))
 
 accept-requires : tie.Need-accept-requires
-accept-requires c κs = search needs
+accept-requires c κs =
+    let e = c .before .before .before .refusal-for .ensures in
+    accepted-ready _ _ _ _ _ _ (sym e ∙ c .before .before .if1 .left)
 
 same-length-2 : tie.Need-same-length-2
 same-length-2 c = search needs
@@ -30,7 +35,11 @@ same-length-3 : tie.Need-same-length-3
 same-length-3 c = search needs
 
 returns-2 : tie.Need-returns-2
-returns-2 c = search needs
+unfolding outcomeFor ramFor replyFor
+returns-2 c =
+    let e = c .before .before .before .before .before .before .before .before .refusal-for .ensures in
+    let n = eq-eqb _ _ (c .before .before .before .before .before .before .before .if1 .left) in
+    (simp (← e, n) (cc), (simp (← e, n) (cc), simp (← e, n) (cc)))
 
 pub serve-spec : {M : Type 1} → statement M
 serve-spec =
