@@ -194,7 +194,7 @@ module _ (ram : List ℕ) (s : Settings) (v : Record) (f : Sure ram s (v .comman
   message-keeps =
       record {
         long = after-length ram s v;
-        stack = stack-moved-same ram s (f .listed) (f .stack) after (stack-moves ram s v f);
+        stack = stack-moved-same ram s (f .agreed) (f .stack) after (stack-moves ram s v f);
         control = control-stays;
         busy =
             λ own command.
@@ -210,7 +210,7 @@ module _ (ram : List ℕ) (s : Settings) (v : Record) (f : Sure ram s (v .comman
       }
 
   pub stack-kept : StackSound after s
-  stack-kept = stack-moved ram s (f .listed) (f .stack) after (after-length ram s v) (stack-moves ram s v f)
+  stack-kept = stack-moved ram s (f .agreed) (f .stack) after (after-length ram s v) (stack-moves ram s v f)
 
   cell-kept : (n : ℕ) → n < 96 → SoundAt ram s n → SoundAt after s n
   unfolding cellNumbered cellFor targetOf

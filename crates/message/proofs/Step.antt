@@ -125,8 +125,8 @@ module _ (ram : List ℕ) (s : Settings) (v : Record) where
         avoids-append a (entryWrites (entryOf ram s) (descriptorOf (deedFor ram s v) v)) (stackPointerWrites s (entryOf ram s))
         (avoids-places a (λ k. stackPointer ram s + k) (λ k. getD (descriptorOf (deedFor ram s v) v) k 0) 4
         (λ k l q.
-        h (rw q (stack-word-from ram s (f .listed) (f .stack) k l))
-        (rw q (stack-word-below ram s (f .listed) (f .stack) k l))))
+        h (rw q (stack-word-from ram s (f .agreed) (f .stack) k l))
+        (rw q (stack-word-below ram s (f .agreed) (f .stack) k l))))
         (p, tt)
 
     -- outside the stack and the stack pointer, RAM afterwards is what the deed leaves
@@ -201,8 +201,8 @@ module _ (ram : List ℕ) (s : Settings) (v : Record) where
     unfolding stackWrites entryWrites applyWrites planOf entryOf
     entry-stands k h =
         let d = descriptorOf (deedFor ram s v) v in
-        let from = stack-word-from ram s (f .listed) (f .stack) k h in
-        let below = stack-word-below ram s (f .listed) (f .stack) k h in
+        let from = stack-word-from ram s (f .agreed) (f .stack) k h in
+        let below = stack-word-below ram s (f .agreed) (f .stack) k h in
         let o = stack-address ram s (f .stack) (stackPointer ram s + k) from below in
         let place : ℕ → ℕ = λ i. stackPointer ram s + i in
         let word : ℕ → ℕ = λ i. getD d i 0 in

@@ -6,36 +6,31 @@ use mathlib.Core.Path.{_≡_}
 use mathlib.Core.Bool.{Bool, true, false, not}
 use mathlib.Core.List.{List}
 use lib.ListN.{length}
-use lib.Dec.{ltb, eqb}
+use lib.Dec.{eqb}
 use borrow.Author.Tests.{eqb-true, not-false}
 use Rattle.words.specs.declared.settings.Settings.{Settings}
 use Rattle.words.specs.Command.{isModeSubaddress}
-use Rattle.words.specs.Settings.{stackSizeListed, settingsRefused}
-use Rattle.words.proofs.Basics.{or-right}
+use Rattle.words.specs.Settings.{settingsRefused}
+use Rattle.words.proofs.Commands.{data-subaddress}
 use Rattle.words.proofs.Refusals.{accepted}
 use Rattle.cells.specs.Map.{ramRefused}
 use Rattle.cells.specs.Cell.{soundCell}
 use Rattle.cells.specs.Stack.{stackWindow, stackSound}
 use Rattle.cells.proofs.Sound.{CellSound, sound-cell-facts}
 use Rattle.cells.proofs.Block.{StackSound, stack-sound-facts}
-use Rattle.cells.proofs.Listed.{data-subaddress}
 use Rattle.cells.proofs.Whole.{AreaFine, fine-command}
 use Rattle.message.specs.Target.{cellFor}
 use Rattle.message.specs.Answer.{cellUnsound, groundsFor, refusalFor}
 
 pub record Sure (ram : List ℕ) (s : Settings) (command : ℕ) : Type 0 where
   pub long : 0x400 ≤ length ram
-  pub listed : stackSizeListed (s .«stack_size») ≡ true
+  pub agreed : settingsRefused s ≡ false
   pub stack : StackSound ram s
   pub cell : CellSound (length ram) (stackWindow ram s) (cellFor ram s command)
 
 ram-long : (n : ℕ) → ramRefused n ≡ false → 0x400 ≤ n
 unfolding ramRefused
 ram-long n e = omega (arith, eqb-true n 4096 (not-false (eqb n 4096) e))
-
-size-listed : (s : Settings) → settingsRefused s ≡ false → stackSizeListed (s .«stack_size») ≡ true
-unfolding settingsRefused
-size-listed s e = not-false _ (or-right (ltb 30 (s .address)) (not (stackSizeListed (s .«stack_size»))) e)
 
 -- a message that no number refuses
 pub accepted-sure :
@@ -48,7 +43,7 @@ accepted-sure ram room s short broken command e =
     let a = accepted g .0 e in
     record {
       long = ram-long (length ram) (a .ram);
-      listed = size-listed s (a .settings);
+      agreed = a .settings;
       stack = stack-sound-facts ram s (not-false (stackSound ram s) (a .stack));
       cell =
           sound-cell-facts (length ram) (stackWindow ram s) (cellFor ram s command)
@@ -60,10 +55,10 @@ pub fine-sure :
     (ram : List ℕ) (s : Settings) (command : ℕ) → AreaFine ram s → isModeSubaddress command ≡ false → Sure ram s command
 unfolding cellFor
 fine-sure ram s command f e =
-    let b = data-subaddress command e in
+    let d = data-subaddress command e in
     record {
       long = ram-long (length ram) (f .accepted .ram-accepted);
-      listed = size-listed s (f .accepted .settings-accepted);
+      agreed = f .accepted .settings-accepted;
       stack = f .accepted .stack-sound;
-      cell = fine-command ram s command f (b .0) (b .1);
+      cell = fine-command ram s command f (d .from) (d .to);
     }
