@@ -1,7 +1,13 @@
-//! A second, independent build of the bench's MIL-STD-1553 remote terminal.
+//! A second, independent build of the bench's MIL-STD-1553 remote terminal, and
+//! what compares it with the proved one.
 //!
 //! [`terminal`] carries out messages and whole traces; [`text`] turns traces
-//! into readable text and back.
+//! into readable text and back; [`engine`] is the proved terminal behind its C
+//! boundary (feature `engine`); [`compare`] runs two terminals side by side.
 
+pub mod compare;
+#[cfg(feature = "engine")]
+pub mod engine;
+pub mod random;
 pub mod terminal;
 pub mod text;

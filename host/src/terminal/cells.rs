@@ -48,7 +48,7 @@ pub struct Cell {
 
 impl Cell {
     pub fn read(ram: &[u16], settings: &Settings, kind: Kind, subaddress: u16) -> Cell {
-        let control = ram[lookup_table(settings) + CONTROL_OFFSET + usize::from(subaddress)];
+        let control = ram[control_place(settings, subaddress)];
         // The five bits of this kind, moved down to bits 4-0.
         let bits = match kind {
             Kind::Receive => control >> 5,
@@ -148,6 +148,11 @@ pub fn stack_pointer_place(settings: &Settings) -> usize {
 /// Where the lookup pointer of a cell is kept.
 pub fn lookup_place(settings: &Settings, kind: Kind, subaddress: u16) -> usize {
     lookup_table(settings) + 32 * kind as usize + usize::from(subaddress)
+}
+
+/// Where the control word of a subaddress is kept.
+pub fn control_place(settings: &Settings, subaddress: u16) -> usize {
+    lookup_table(settings) + CONTROL_OFFSET + usize::from(subaddress)
 }
 
 fn lookup_table(settings: &Settings) -> usize {

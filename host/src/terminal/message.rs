@@ -59,16 +59,7 @@ pub fn message_from_record(
     remembered: Remembered,
     record: &Record,
 ) -> (Answer, Remembered) {
-    let outcome = check_lent(ram, reply, settings)
-        .and_then(|()| {
-            if record.keeps_layout() {
-                Ok(())
-            } else {
-                Err(refusal::RECORD_LAYOUT)
-            }
-        })
-        .and_then(|()| perform::<NONE>(ram, reply, settings, record));
-    settle(outcome, remembered)
+    from_record::<NONE>(ram, reply, settings, remembered, record)
 }
 
 /// [`message_from_bytes`] of a terminal with an error planted in it.
@@ -91,6 +82,26 @@ pub fn planted_message(
     run(ram, reply, settings, remembered, bytes)
 }
 
+/// [`message_from_record`] of a terminal with an error planted in it.
+pub fn planted_message_from_record(
+    planted: Planted,
+    ram: &mut [u16],
+    reply: &mut [u16],
+    settings: &Settings,
+    remembered: Remembered,
+    record: &Record,
+) -> (Answer, Remembered) {
+    let run = match planted {
+        Planted::None => from_record::<NONE>,
+        Planted::PointerAfterInDescriptor => from_record::<POINTER_AFTER_IN_DESCRIPTOR>,
+        Planted::RolloverWhenKeptBack => from_record::<ROLLOVER_WHEN_KEPT_BACK>,
+        Planted::WrapByWordCount => from_record::<WRAP_BY_WORD_COUNT>,
+        Planted::FaultyStoresWhenDisabled => from_record::<FAULTY_STORES_WHEN_DISABLED>,
+        Planted::ZeroCountIsNone => from_record::<ZERO_COUNT_IS_NONE>,
+    };
+    run(ram, reply, settings, remembered, record)
+}
+
 // The values of the constant parameter `PLANTED` below.
 const NONE: u8 = Planted::None as u8;
 const POINTER_AFTER_IN_DESCRIPTOR: u8 = Planted::PointerAfterInDescriptor as u8;
@@ -109,6 +120,19 @@ fn from_bytes<const PLANTED: u8>(
     let outcome = check_lent(ram, reply, settings)
         .and_then(|()| read_record(bytes))
         .and_then(|record| perform::<PLANTED>(ram, reply, settings, &record));
+    settle(outcome, remembered)
+}
+
+fn from_record<const PLANTED: u8>(
+    ram: &mut [u16],
+    reply: &mut [u16],
+    settings: &Settings,
+    remembered: Remembered,
+    record: &Record,
+) -> (Answer, Remembered) {
+    let outcome = check_lent(ram, reply, settings)
+        .and_then(|()| record.check())
+        .and_then(|()| perform::<PLANTED>(ram, reply, settings, record));
     settle(outcome, remembered)
 }
 
@@ -209,7 +233,8 @@ fn check_command(command: Command, settings: &Settings) -> Result<(), u16> {
     }
 }
 
-fn cell_kind(command: Command, settings: &Settings) -> Kind {
+/// The kind of cell that a command uses.
+pub fn cell_kind(command: Command, settings: &Settings) -> Kind {
     if command.is_transmit() {
         Kind::Transmit
     } else if command.is_broadcast() && settings.separate_broadcast {

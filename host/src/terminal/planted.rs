@@ -30,4 +30,24 @@ impl Planted {
         Planted::FaultyStoresWhenDisabled,
         Planted::ZeroCountIsNone,
     ];
+
+    /// The name that a person types.
+    pub fn name(self) -> &'static str {
+        match self {
+            Planted::None => "none",
+            Planted::PointerAfterInDescriptor => "pointer-after-in-descriptor",
+            Planted::RolloverWhenKeptBack => "rollover-when-kept-back",
+            Planted::WrapByWordCount => "wrap-by-word-count",
+            Planted::FaultyStoresWhenDisabled => "faulty-stores-when-disabled",
+            Planted::ZeroCountIsNone => "zero-count-is-none",
+        }
+    }
+
+    /// The error with this name.
+    pub fn named(name: &str) -> Option<Planted> {
+        Planted::ERRORS
+            .iter()
+            .copied()
+            .find(|error| error.name() == name)
+    }
 }

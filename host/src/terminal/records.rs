@@ -45,6 +45,15 @@ impl Record {
                 .iter()
                 .all(|&word| word == 0)
     }
+
+    /// Refuses with 5 a value that breaks the layout.
+    pub fn check(&self) -> Result<(), u16> {
+        if self.keeps_layout() {
+            Ok(())
+        } else {
+            Err(refusal::RECORD_LAYOUT)
+        }
+    }
 }
 
 /// Reads a record, or refuses with 4 (length) or 5 (layout).
@@ -62,18 +71,16 @@ pub fn read_record(bytes: &[u8]) -> Result<Record, u16> {
         *word = u16::from_be_bytes([pair[0], pair[1]]);
     }
     let gaps_are_zero = head[2..4] == [0; 2] && head[8..16] == [0; 8];
-    if gaps_are_zero && record.keeps_layout() {
-        Ok(record)
-    } else {
-        Err(refusal::RECORD_LAYOUT)
+    if !gaps_are_zero {
+        return Err(refusal::RECORD_LAYOUT);
     }
+    record.check()?;
+    Ok(record)
 }
 
 /// Writes a record, or refuses with 5 a value that breaks the layout.
 pub fn write_record(record: &Record) -> Result<[u8; RECORD_BYTES], u16> {
-    if !record.keeps_layout() {
-        return Err(refusal::RECORD_LAYOUT);
-    }
+    record.check()?;
     let mut bytes = [0; RECORD_BYTES];
     bytes[0..2].copy_from_slice(&record.command.to_be_bytes());
     bytes[4..6].copy_from_slice(&record.tag.to_be_bytes());

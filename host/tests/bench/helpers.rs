@@ -1,5 +1,6 @@
 //! A small bench to run messages on, and plain ways to write records.
 
+pub use bench_side::random::Random;
 use bench_side::terminal::records::RECORD_WORDS;
 use bench_side::terminal::words::Command;
 use bench_side::terminal::{
@@ -128,80 +129,4 @@ pub fn good(command: u16) -> Record {
 
 pub fn numbered_words(first: u16, count: usize) -> Vec<u16> {
     (first..).take(count).collect()
-}
-
-/// A small random generator (xorshift), the same in every run.
-pub struct Random(u64);
-
-impl Random {
-    pub fn new(seed: u64) -> Random {
-        Random(seed.wrapping_mul(0x9E37_79B9_7F4A_7C15) | 1)
-    }
-
-    pub fn next(&mut self) -> u64 {
-        self.0 ^= self.0 << 13;
-        self.0 ^= self.0 >> 7;
-        self.0 ^= self.0 << 17;
-        self.0 >> 16
-    }
-
-    pub fn below(&mut self, limit: usize) -> usize {
-        (self.next() % limit as u64) as usize
-    }
-
-    pub fn chance(&mut self, one_in: usize) -> bool {
-        self.below(one_in) == 0
-    }
-
-    pub fn word(&mut self) -> u16 {
-        self.next() as u16
-    }
-
-    pub fn pick<T: Copy>(&mut self, choices: &[T]) -> T {
-        choices[self.below(choices.len())]
-    }
-
-    pub fn bytes(&mut self, length: usize) -> Vec<u8> {
-        (0..length).map(|_| self.next() as u8).collect()
-    }
-
-    pub fn settings(&mut self) -> Settings {
-        Settings {
-            address: self.below(31) as u16,
-            area_b: self.chance(2),
-            stack_size: self.pick(&[256, 512, 1024, 2048]),
-            overwrite_invalid: self.chance(2),
-            separate_broadcast: self.chance(2),
-            illegal_receive_disable: self.chance(2),
-            busy_receive_disable: self.chance(2),
-            busy_always: self.chance(4),
-            service_request: self.chance(2),
-            subsystem_flag: self.chance(2),
-            terminal_flag: self.chance(2),
-        }
-    }
-
-    /// A record that keeps its layout, mostly to `address` and mostly good.
-    pub fn record(&mut self, address: u16) -> Record {
-        let to = match self.below(16) {
-            0 => self.below(32) as u16,
-            1..=4 => 31,
-            _ => address,
-        };
-        let command = to << 11 | self.word() & 0x07FF;
-        let asked = good(command).count;
-        let count = if self.chance(3) {
-            self.below(34) as u16
-        } else {
-            asked
-        };
-        let flags = self.pick(&[0, 0, 0, 1, 1, 2, 3, 4, 5, 6, 7]);
-        let mut record = Record {
-            tag: self.word(),
-            ..heard(command, count, flags)
-        };
-        let held = record.words_held();
-        record.words[..held].fill_with(|| self.word());
-        record
-    }
 }

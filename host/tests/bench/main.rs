@@ -1,6 +1,7 @@
 //! Tests of the whole library, one file per subject.
 
 mod area;
+mod compare;
 mod helpers;
 mod makers;
 mod message;

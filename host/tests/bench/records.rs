@@ -163,7 +163,7 @@ fn writing_undoes_reading() {
     for _ in 0..10_000 {
         let mut bytes = write_record(&random.record(5)).unwrap();
         let place = random.below(80);
-        bytes[place] = random.next() as u8;
+        bytes[place] = random.draw() as u8;
         if let Ok(record) = read_record(&bytes) {
             assert_eq!(write_record(&record), Ok(bytes));
         }

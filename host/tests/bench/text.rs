@@ -348,12 +348,12 @@ fn random_traces_survive() {
     for _ in 0..200 {
         let mut binary = vec![0; 8192];
         for _ in 0..random.below(50) {
-            binary[random.below(8192)] = random.next() as u8;
+            binary[random.below(8192)] = random.draw() as u8;
         }
         for _ in 0..random.below(20) {
             let mut bytes = write_record(&random.record(5)).unwrap();
             if random.chance(4) {
-                bytes[random.below(80)] = random.next() as u8;
+                bytes[random.below(80)] = random.draw() as u8;
             }
             binary.extend(bytes);
         }

@@ -1,0 +1,54 @@
+//! With the feature `engine`, links the proved library's archive. Without it
+//! there is nothing to do.
+
+use std::env;
+use std::path::{Path, PathBuf};
+use std::process;
+
+/// Names the folder of the archive, if it is not where `rt staticlib` puts it.
+const FOLDER: &str = "SOLKVERVA_LIB";
+const ARCHIVE: &str = "libboundary.a";
+
+fn main() {
+    println!("cargo:rerun-if-changed=build.rs");
+    println!("cargo:rerun-if-env-changed={FOLDER}");
+    if env::var_os("CARGO_FEATURE_ENGINE").is_some() {
+        if let Err(problem) = link() {
+            eprintln!("{problem}");
+            process::exit(1);
+        }
+    }
+}
+
+fn link() -> Result<(), String> {
+    let processor = env::var("CARGO_CFG_TARGET_ARCH").unwrap_or_default();
+    if processor != "x86_64" {
+        return Err(format!(
+            "the proved library is for x86-64, and this build is for {processor}: use the settings that \
+             scripts/host-env prints, and --target \"$HOST_TARGET\""
+        ));
+    }
+    let folder = archive_folder();
+    let archive = folder.join(ARCHIVE);
+    println!("cargo:rerun-if-changed={}", archive.display());
+    if !archive.exists() {
+        return Err(format!(
+            "the proved library is missing: {} is not there. Make it with 'rt staticlib boundary' at the top of \
+             the repository, or name its folder in {FOLDER}",
+            archive.display()
+        ));
+    }
+    println!("cargo:rustc-link-search=native={}", folder.display());
+    println!("cargo:rustc-link-lib=static=boundary");
+    Ok(())
+}
+
+fn archive_folder() -> PathBuf {
+    match env::var_os(FOLDER) {
+        Some(folder) => PathBuf::from(folder),
+        None => {
+            let package = env::var_os("CARGO_MANIFEST_DIR").unwrap_or_default();
+            Path::new(&package).join("../target/staticlib")
+        }
+    }
+}

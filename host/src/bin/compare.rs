@@ -1,0 +1,137 @@
+//! Compares the proved terminal with this package's own, on random messages.
+
+use std::env;
+use std::error::Error;
+use std::fs;
+use std::process::ExitCode;
+
+use bench_side::compare::coverage::Coverage;
+use bench_side::compare::replay::{read_case, write_case};
+use bench_side::compare::shrink::shrink;
+use bench_side::compare::sides::Proved;
+use bench_side::compare::{compare, Case, Plain};
+use bench_side::terminal::Planted;
+
+const USAGE: &str = "usage: compare [--messages N] [--seed N] [--planted ERROR] [--replay FILE]";
+const MESSAGES: u64 = 1_000_000;
+
+struct Options {
+    messages: u64,
+    seed: u64,
+    planted: Planted,
+    replay: Option<String>,
+}
+
+fn main() -> ExitCode {
+    match options().and_then(run) {
+        Ok(true) => ExitCode::SUCCESS,
+        Ok(false) => ExitCode::FAILURE,
+        Err(error) => {
+            eprintln!("compare: {error}");
+            ExitCode::from(2)
+        }
+    }
+}
+
+fn options() -> Result<Options, Box<dyn Error>> {
+    let mut options = Options {
+        messages: MESSAGES,
+        seed: 1,
+        planted: Planted::None,
+        replay: None,
+    };
+    let mut arguments = env::args().skip(1);
+    while let Some(name) = arguments.next() {
+        let value = arguments.next().ok_or(USAGE)?;
+        match name.as_str() {
+            "--messages" => options.messages = value.parse().map_err(|_| USAGE)?,
+            "--seed" => options.seed = value.parse().map_err(|_| USAGE)?,
+            "--planted" => options.planted = Planted::named(&value).ok_or_else(error_names)?,
+            "--replay" => options.replay = Some(value),
+            _ => return Err(USAGE.into()),
+        }
+    }
+    Ok(options)
+}
+
+fn error_names() -> String {
+    let names: Vec<&str> = Planted::ERRORS.iter().map(|error| error.name()).collect();
+    format!("the errors are {}", names.join(", "))
+}
+
+/// Whether the comparison went as it should.
+fn run(options: Options) -> Result<bool, Box<dyn Error>> {
+    match &options.replay {
+        Some(file) => replay(file, options.planted),
+        None => Ok(compare_all(&options)),
+    }
+}
+
+fn compare_all(options: &Options) -> bool {
+    let plain = Plain(options.planted);
+    let mut coverage = Coverage::default();
+    let finding = compare(
+        &plain,
+        &Proved,
+        options.seed,
+        options.messages,
+        &mut coverage,
+    );
+    let finding = match finding {
+        Some(finding) => finding,
+        None => return report(options, &coverage),
+    };
+    println!(
+        "difference after {} messages that were the same: seed {}, message {}",
+        coverage.messages(),
+        finding.seed,
+        finding.message
+    );
+    let smallest = shrink(&finding.case, |case| case.differs(&plain, &Proved));
+    print_case(&smallest, &plain);
+    // A planted error is there to be found.
+    options.planted != Planted::None
+}
+
+fn report(options: &Options, coverage: &Coverage) -> bool {
+    print!("{coverage}");
+    println!(
+        "{} messages from seed {} on, no difference",
+        coverage.messages(),
+        options.seed
+    );
+    if options.planted != Planted::None {
+        println!(
+            "FAILED: the planted error {} was not found",
+            options.planted.name()
+        );
+        return false;
+    }
+    let missing = coverage.missing();
+    for name in &missing {
+        println!("FAILED: no case of: {name}");
+    }
+    missing.is_empty()
+}
+
+fn print_case(case: &Case, plain: &Plain) {
+    println!("what differs (plain Rust, then the proved terminal):");
+    print!("{}", case.differences(plain, &Proved));
+    println!("the smallest case found, to be run again with compare --replay FILE:");
+    print!("{}", write_case(case));
+}
+
+fn replay(file: &str, planted: Planted) -> Result<bool, Box<dyn Error>> {
+    let text = fs::read_to_string(file).map_err(|error| format!("{file}: {error}"))?;
+    let case = read_case(&text).map_err(|error| format!("{file}: {error}"))?;
+    let plain = Plain(planted);
+    let (answers, _) = case.run(&Proved);
+    println!("{answers:?}");
+    let differs = case.differs(&plain, &Proved);
+    if differs {
+        print_case(&case, &plain);
+    } else {
+        println!("no difference");
+    }
+    Ok(!differs)
+}

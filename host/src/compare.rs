@@ -1,0 +1,14 @@
+//! Two terminals side by side on the same inputs, one subject per file.
+
+pub mod case;
+pub mod coverage;
+pub mod episode;
+pub mod replay;
+pub mod run;
+pub mod shrink;
+pub mod sides;
+pub mod traces;
+
+pub use case::Case;
+pub use run::{compare, Finding};
+pub use sides::{Plain, Side};

@@ -1,0 +1,172 @@
+//! One case of a comparison: all that a terminal is given, and all that comes
+//! of it.
+
+use std::fmt::Write;
+
+use super::sides::Side;
+use crate::terminal::cells::RAM_WORDS;
+use crate::terminal::records::RECORD_BYTES;
+use crate::terminal::{Answer, Record, Remembered, Settings};
+
+/// Words behind those that are lent; no terminal may touch them.
+pub const GUARD_WORDS: usize = 64;
+pub const GUARD: u16 = 0xEEEE;
+/// Words of room for the reply, lent or not.
+pub const REPLY_ROOM: usize = 40;
+
+/// What a terminal works on and what it remembers.
+#[derive(Clone, Debug, PartialEq, Eq)]
+pub struct Bench {
+    pub ram: Vec<u16>,
+    pub reply: Vec<u16>,
+    pub remembered: Remembered,
+}
+
+impl Default for Bench {
+    fn default() -> Bench {
+        let mut ram = vec![0; RAM_WORDS + GUARD_WORDS];
+        ram[RAM_WORDS..].fill(GUARD);
+        Bench {
+            ram,
+            reply: vec![0; REPLY_ROOM],
+            remembered: Remembered::default(),
+        }
+    }
+}
+
+/// A message, as bytes of any length or as a value.
+#[derive(Clone, Debug, PartialEq, Eq)]
+pub enum Message {
+    Bytes(Vec<u8>),
+    Value(Record),
+}
+
+/// What is asked of a terminal beside what it works on.
+#[derive(Clone, Debug, PartialEq, Eq)]
+pub struct Request {
+    pub settings: Settings,
+    /// How much of the bench's RAM is lent.
+    pub ram_words: usize,
+    /// How much of the bench's reply room is lent.
+    pub reply_words: usize,
+    pub message: Message,
+    /// Whether the whole-area check is asked for too.
+    pub checks_area: bool,
+}
+
+/// All that a terminal answers.
+#[derive(Clone, Debug, PartialEq, Eq)]
+pub struct Answers {
+    pub area: Option<(u16, u16)>,
+    /// What the reader makes of bytes.
+    pub read: Option<(u16, Record)>,
+    /// What the writer makes of a value.
+    pub written: Option<(u16, [u8; RECORD_BYTES])>,
+    pub answer: Answer,
+}
+
+/// Asks one side; the bench then holds what the message left.
+pub fn ask(side: &impl Side, bench: &mut Bench, request: &Request) -> Answers {
+    let settings = &request.settings;
+    let ram = &mut bench.ram[..request.ram_words];
+    let reply = &mut bench.reply[..request.reply_words];
+    let area = request.checks_area.then(|| side.check_area(ram, settings));
+    let (read, written, (answer, remembered)) = match &request.message {
+        Message::Bytes(bytes) => (
+            Some(side.read_record(bytes)),
+            None,
+            side.message_from_bytes(ram, reply, settings, bench.remembered, bytes),
+        ),
+        Message::Value(record) => (
+            None,
+            Some(side.write_record(record)),
+            side.message_from_record(ram, reply, settings, bench.remembered, record),
+        ),
+    };
+    bench.remembered = remembered;
+    Answers {
+        area,
+        read,
+        written,
+        answer,
+    }
+}
+
+/// A bench and what is asked on it.
+#[derive(Clone, Debug, PartialEq, Eq)]
+pub struct Case {
+    pub bench: Bench,
+    pub request: Request,
+}
+
+impl Case {
+    pub fn run(&self, side: &impl Side) -> (Answers, Bench) {
+        let mut bench = self.bench.clone();
+        let answers = ask(side, &mut bench, &self.request);
+        (answers, bench)
+    }
+
+    /// Whether two terminals answer differently or leave something different.
+    pub fn differs(&self, left: &impl Side, right: &impl Side) -> bool {
+        self.run(left) != self.run(right)
+    }
+
+    /// A line for each difference: what it is, then the two sides' values.
+    pub fn differences(&self, left: &impl Side, right: &impl Side) -> String {
+        let (left_answers, left_bench) = self.run(left);
+        let (right_answers, right_bench) = self.run(right);
+        let mut lines = Lines(String::new());
+        lines.debug("area", &left_answers.area, &right_answers.area);
+        lines.debug("reader", &left_answers.read, &right_answers.read);
+        lines.debug("writer", &left_answers.written, &right_answers.written);
+        lines.answer(&left_answers.answer, &right_answers.answer);
+        let (left_memory, right_memory) = (left_bench.remembered, right_bench.remembered);
+        lines.word(
+            "remembered command",
+            left_memory.command,
+            right_memory.command,
+        );
+        lines.word("remembered status", left_memory.status, right_memory.status);
+        lines.words("ram", &left_bench.ram, &right_bench.ram);
+        lines.words("reply", &left_bench.reply, &right_bench.reply);
+        lines.0
+    }
+}
+
+struct Lines(String);
+
+impl Lines {
+    fn push(&mut self, line: std::fmt::Arguments) {
+        writeln!(self.0, "{line}").expect("writing to a string never fails");
+    }
+
+    fn debug<T: std::fmt::Debug + PartialEq>(&mut self, name: &str, left: &T, right: &T) {
+        if left != right {
+            self.push(format_args!("{name}: {left:?} or {right:?}"));
+        }
+    }
+
+    fn word(&mut self, name: &str, left: u16, right: u16) {
+        if left != right {
+            self.push(format_args!("{name}: {left:04X} or {right:04X}"));
+        }
+    }
+
+    fn words(&mut self, name: &str, left: &[u16], right: &[u16]) {
+        for (place, (&left, &right)) in left.iter().zip(right).enumerate() {
+            self.word(&format!("{name} {place:04X}"), left, right);
+        }
+    }
+
+    fn answer(&mut self, left: &Answer, right: &Answer) {
+        self.debug("number", &left.number, &right.number);
+        self.word("block status", left.block_status, right.block_status);
+        self.debug("cell", &left.cell, &right.cell);
+        self.word("pointer before", left.pointer_before, right.pointer_before);
+        self.word("pointer after", left.pointer_after, right.pointer_after);
+        self.word("status", left.status, right.status);
+        self.debug("status sent", &left.sent, &right.sent);
+        self.debug("data words sent", &left.data_words, &right.data_words);
+        self.word("interrupt word", left.interrupt, right.interrupt);
+    }
+}

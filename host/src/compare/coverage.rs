@@ -1,0 +1,378 @@
+//! What a comparison has met: how often each class of case occurred.
+
+use std::fmt;
+
+use super::case::{Answers, Bench, Message, Request};
+use crate::terminal::cells::{Cell, Kind, Scheme, Stack, RAM_WORDS};
+use crate::terminal::message::cell_kind;
+use crate::terminal::records::{
+    read_record, Record, FLAG_BUS_B, FLAG_INVALID_WORD, FLAG_WRONG_SYNC, TOO_MANY,
+};
+use crate::terminal::words::Command;
+use crate::terminal::{Answer, Settings};
+
+/// Lists the classes with what each is called.
+macro_rules! classes {
+    ($($class:ident $name:literal,)*) => {
+        #[derive(Clone, Copy, Debug, PartialEq, Eq)]
+        enum Class { $($class,)* }
+
+        const NAMES: &[&str] = &[$($name,)*];
+    };
+}
+
+classes! {
+    FromBytes "messages from bytes",
+    FromValue "messages from values",
+    Accepted "accepted",
+    Refused1 "refused with 1, RAM length",
+    Refused2 "refused with 2, reply length",
+    Refused3 "refused with 3, settings",
+    Refused4 "refused with 4, record length",
+    Refused5 "refused with 5, record layout (bytes)",
+    Refused5Value "refused with 5, record layout (value)",
+    Refused6 "refused with 6, address",
+    Refused7 "refused with 7, subaddress",
+    Refused8 "refused with 8, stack",
+    Refused9 "refused with 9, cell",
+    SingleReceive "single, receive",
+    SingleTransmit "single, transmit",
+    SingleBroadcast "single, broadcast",
+    DoubleReceive "double, receive",
+    DoubleBroadcast "double, broadcast",
+    CircularReceive "circular, receive",
+    CircularTransmit "circular, transmit",
+    CircularBroadcast "circular, broadcast",
+    Circle128 "circular of 128 words",
+    Circle256 "circular of 256 words",
+    Circle512 "circular of 512 words",
+    Circle1024 "circular of 1024 words",
+    Circle2048 "circular of 2048 words",
+    CircleTooLarge "circular of 4096 or 8192 words, refused",
+    PointerFlipped "double pointer flipped",
+    PointerMoved "circular pointer moved",
+    PointerKept "circular pointer kept back after a fault",
+    PointerMovedInvalid "circular pointer moved despite a fault",
+    Wrapped "words on both sides of a circle's end",
+    EndReached "circle's end reached exactly",
+    EndMissed "one word short of a circle's end",
+    Rollover "rollover",
+    RolloverInterrupt "rollover with its interrupt",
+    EndInterrupt "end-of-message interrupt",
+    StackWrapped "stack wrapped",
+    OwnReceive "own receive",
+    OwnTransmit "own transmit",
+    BroadcastReceive "broadcast receive",
+    BroadcastTransmit "broadcast transmit (contents fault)",
+    CountFault "count fault",
+    SyncFault "sync fault",
+    InvalidWord "invalid word",
+    SyncAndInvalid "sync fault and invalid word",
+    BusB "bus B",
+    CountZero "no words",
+    CountOver "more than 32 words",
+    CountFieldZero "count field 0",
+    Illegal "illegal",
+    Busy "busy",
+    BusyAlways "busy under busy-always",
+    WithheldIllegal "words withheld, illegal",
+    WithheldBusy "words withheld, busy",
+    FaultyWithheld "words of a faulty message withheld",
+    WordsSent "data words sent",
+    Sent32 "32 words sent",
+    NoStatus "no status sent",
+    AreaA "area A",
+    AreaB "area B",
+    Stack256 "stack of 256 words",
+    Stack512 "stack of 512 words",
+    Stack1024 "stack of 1024 words",
+    Stack2048 "stack of 2048 words",
+    YesOverwrite "overwrite-invalid on",
+    NoOverwrite "overwrite-invalid off",
+    YesSeparate "separate-broadcast on",
+    NoSeparate "separate-broadcast off",
+    YesIllegalDisable "illegal-receive-disable on",
+    NoIllegalDisable "illegal-receive-disable off",
+    YesBusyDisable "busy-receive-disable on",
+    NoBusyDisable "busy-receive-disable off",
+    NoBusyAlways "busy-always off",
+    YesService "service request on",
+    NoService "service request off",
+    YesSubsystem "subsystem flag on",
+    NoSubsystem "subsystem flag off",
+    YesTerminal "terminal flag on",
+    NoTerminal "terminal flag off",
+    AtRamEnd "window up to the end of RAM",
+    BesideStack "window beside the stack",
+    BesideFixed "window beside a fixed area",
+    AreaSound "whole-area check: sound",
+    Area1 "whole-area check: 1",
+    Area3 "whole-area check: 3",
+    Area8 "whole-area check: 8",
+    Area9Receive "whole-area check: 9, a receive cell",
+    Area9Transmit "whole-area check: 9, a transmit cell",
+    Area9Broadcast "whole-area check: 9, a broadcast cell",
+}
+
+#[derive(Clone, Debug, PartialEq, Eq)]
+pub struct Coverage {
+    counts: Vec<u64>,
+}
+
+impl Default for Coverage {
+    fn default() -> Coverage {
+        Coverage {
+            counts: vec![0; NAMES.len()],
+        }
+    }
+}
+
+/// What the cell and the stack were before a message.
+pub struct Before {
+    cell: Option<(Cell, Stack)>,
+}
+
+impl Before {
+    pub fn read(bench: &Bench, request: &Request) -> Before {
+        // What is refused with 3 has no stack to speak of.
+        let cell = request.settings.check().ok().map(|()| {
+            let settings = &request.settings;
+            let command = Command(record_of(&request.message).map_or(0, |record| record.command));
+            let kind = cell_kind(command, settings);
+            (
+                Cell::read(&bench.ram, settings, kind, command.subaddress()),
+                Stack::read(&bench.ram, settings),
+            )
+        });
+        Before { cell }
+    }
+}
+
+impl Coverage {
+    pub fn messages(&self) -> u64 {
+        self.count(Class::FromBytes) + self.count(Class::FromValue)
+    }
+
+    /// The names of the classes that never occurred.
+    pub fn missing(&self) -> Vec<&'static str> {
+        let missing = |(_, count): &(&&'static str, &u64)| **count == 0;
+        let pairs = NAMES.iter().zip(&self.counts);
+        pairs.filter(missing).map(|(name, _)| *name).collect()
+    }
+
+    /// Takes in one message: what was there, what was asked, what was answered.
+    pub fn take_in(&mut self, before: &Before, request: &Request, answers: &Answers) {
+        let from_bytes = matches!(request.message, Message::Bytes(_));
+        self.note(Class::FromBytes, from_bytes);
+        self.note(Class::FromValue, !from_bytes);
+        self.take_in_area(answers);
+        let answer = &answers.answer;
+        if answer.number != 0 {
+            self.take_in_refusal(before, from_bytes, answer.number);
+        } else if let (Some(record), Some((cell, stack))) =
+            (record_of(&request.message), &before.cell)
+        {
+            self.take_in_settings(&request.settings);
+            self.take_in_place(cell, stack);
+            self.take_in_accepted(&request.settings, &record, cell, answer);
+        }
+    }
+
+    fn take_in_area(&mut self, answers: &Answers) {
+        if let Some((number, cell)) = answers.area {
+            self.note(Class::AreaSound, number == 0);
+            self.note(Class::Area1, number == 1);
+            self.note(Class::Area3, number == 3);
+            self.note(Class::Area8, number == 8);
+            self.note(Class::Area9Receive, number == 9 && cell < 32);
+            self.note(Class::Area9Transmit, number == 9 && cell / 32 == 1);
+            self.note(Class::Area9Broadcast, number == 9 && cell >= 64);
+        }
+    }
+
+    fn take_in_refusal(&mut self, before: &Before, from_bytes: bool, number: u16) {
+        let class = match number {
+            1 => Class::Refused1,
+            2 => Class::Refused2,
+            3 => Class::Refused3,
+            4 => Class::Refused4,
+            5 if from_bytes => Class::Refused5,
+            5 => Class::Refused5Value,
+            6 => Class::Refused6,
+            7 => Class::Refused7,
+            8 => Class::Refused8,
+            _ => Class::Refused9,
+        };
+        self.note(class, true);
+        if let Some((cell, _)) = &before.cell {
+            let too_large = matches!(cell.scheme, Scheme::Circular(4096 | 8192));
+            self.note(Class::CircleTooLarge, number == 9 && too_large);
+        }
+    }
+
+    fn take_in_settings(&mut self, settings: &Settings) {
+        self.either(Class::AreaB, Class::AreaA, settings.area_b);
+        self.note(Class::Stack256, settings.stack_size == 256);
+        self.note(Class::Stack512, settings.stack_size == 512);
+        self.note(Class::Stack1024, settings.stack_size == 1024);
+        self.note(Class::Stack2048, settings.stack_size == 2048);
+        self.either(
+            Class::YesOverwrite,
+            Class::NoOverwrite,
+            settings.overwrite_invalid,
+        );
+        self.either(
+            Class::YesSeparate,
+            Class::NoSeparate,
+            settings.separate_broadcast,
+        );
+        self.either(
+            Class::YesIllegalDisable,
+            Class::NoIllegalDisable,
+            settings.illegal_receive_disable,
+        );
+        self.either(
+            Class::YesBusyDisable,
+            Class::NoBusyDisable,
+            settings.busy_receive_disable,
+        );
+        self.either(Class::BusyAlways, Class::NoBusyAlways, settings.busy_always);
+        self.either(
+            Class::YesService,
+            Class::NoService,
+            settings.service_request,
+        );
+        self.either(
+            Class::YesSubsystem,
+            Class::NoSubsystem,
+            settings.subsystem_flag,
+        );
+        self.either(
+            Class::YesTerminal,
+            Class::NoTerminal,
+            settings.terminal_flag,
+        );
+    }
+
+    fn take_in_place(&mut self, cell: &Cell, stack: &Stack) {
+        use Class::*;
+        let window = cell.window();
+        let (single, double, circular) = match cell.kind {
+            Kind::Receive => (SingleReceive, Some(DoubleReceive), CircularReceive),
+            Kind::Transmit => (SingleTransmit, None, CircularTransmit),
+            Kind::Broadcast => (SingleBroadcast, Some(DoubleBroadcast), CircularBroadcast),
+        };
+        match (cell.scheme, double) {
+            (Scheme::Double, Some(double)) => self.note(double, true),
+            (Scheme::Circular(_), _) => self.note(circular, true),
+            _ => self.note(single, true),
+        }
+        self.note(Circle128, cell.scheme == Scheme::Circular(128));
+        self.note(Circle256, cell.scheme == Scheme::Circular(256));
+        self.note(Circle512, cell.scheme == Scheme::Circular(512));
+        self.note(Circle1024, cell.scheme == Scheme::Circular(1024));
+        self.note(Circle2048, cell.scheme == Scheme::Circular(2048));
+        self.note(AtRamEnd, window.end == RAM_WORDS);
+        let block = &stack.block;
+        let beside_stack = window.end == block.start || window.start == block.end;
+        self.note(BesideStack, beside_stack);
+        let beside_fixed =
+            matches!(window.end, 0x0100 | 0x0300) || matches!(window.start, 0x0248 | 0x0400);
+        self.note(BesideFixed, beside_fixed);
+    }
+
+    fn take_in_accepted(
+        &mut self,
+        settings: &Settings,
+        record: &Record,
+        cell: &Cell,
+        answer: &Answer,
+    ) {
+        use Class::*;
+        let command = Command(record.command);
+        let has = |bit: u32| answer.block_status >> bit & 1 == 1;
+        let faulty = has(12);
+        let illegal = has(6);
+        let busy = answer.status & 8 != 0;
+        self.note(Accepted, true);
+        self.note(BusB, record.has_flag(FLAG_BUS_B));
+        self.note(CountFault, has(5));
+        self.note(SyncFault, record.has_flag(FLAG_WRONG_SYNC));
+        self.note(InvalidWord, record.has_flag(FLAG_INVALID_WORD));
+        self.note(SyncAndInvalid, has(4) && has(3));
+        self.note(CountZero, record.count == 0);
+        self.note(CountOver, record.count == TOO_MANY);
+        self.note(CountFieldZero, command.count_field() == 0);
+        self.note(Illegal, illegal);
+        self.note(Busy, busy && !settings.busy_always);
+        self.note(Rollover, has(7));
+        self.note(RolloverInterrupt, answer.interrupt & 0x0400 != 0);
+        self.note(EndInterrupt, answer.interrupt & 0x0004 != 0);
+        self.note(StackWrapped, answer.interrupt & 0x0040 != 0);
+        self.note(NoStatus, !answer.sent);
+        self.note(WordsSent, answer.data_words > 0);
+        self.note(Sent32, answer.data_words == 32);
+        let class = match (command.is_broadcast(), command.is_transmit()) {
+            (false, false) => OwnReceive,
+            (false, true) => OwnTransmit,
+            (true, false) => BroadcastReceive,
+            (true, true) => BroadcastTransmit,
+        };
+        self.note(class, true);
+
+        let mut moved = answer.data_words;
+        if !command.is_transmit() {
+            let held = record.count.min(command.word_count());
+            let by_illegal = illegal && settings.illegal_receive_disable;
+            let by_busy = busy && settings.busy_receive_disable;
+            let withheld = by_illegal || by_busy;
+            self.note(WithheldIllegal, by_illegal && held > 0);
+            self.note(WithheldBusy, by_busy && held > 0);
+            self.note(FaultyWithheld, withheld && held > 0 && faulty);
+            moved = if withheld { 0 } else { held };
+        }
+        let pointer_moved = answer.pointer_after != answer.pointer_before;
+        self.note(
+            PointerFlipped,
+            cell.scheme == Scheme::Double && pointer_moved,
+        );
+        if let Scheme::Circular(size) = cell.scheme {
+            let end = cell.pointer % size + moved;
+            self.note(PointerMoved, pointer_moved);
+            self.note(PointerMovedInvalid, pointer_moved && faulty);
+            self.note(PointerKept, !pointer_moved && faulty && moved > 0);
+            self.note(Wrapped, end > size);
+            self.note(EndReached, end == size && moved > 0);
+            self.note(EndMissed, end + 1 == size && moved > 0);
+        }
+    }
+
+    fn either(&mut self, yes: Class, no: Class, holds: bool) {
+        self.note(if holds { yes } else { no }, true);
+    }
+
+    fn note(&mut self, class: Class, holds: bool) {
+        self.counts[class as usize] += u64::from(holds);
+    }
+
+    fn count(&self, class: Class) -> u64 {
+        self.counts[class as usize]
+    }
+}
+
+impl fmt::Display for Coverage {
+    fn fmt(&self, f: &mut fmt::Formatter) -> fmt::Result {
+        for (name, count) in NAMES.iter().zip(&self.counts) {
+            writeln!(f, "{count:>9}  {name}")?;
+        }
+        Ok(())
+    }
+}
+
+/// The record of a message, if it is one.
+fn record_of(message: &Message) -> Option<Record> {
+    match message {
+        Message::Bytes(bytes) => read_record(bytes).ok(),
+        Message::Value(record) => Some(*record),
+    }
+}

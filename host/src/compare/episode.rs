@@ -1,0 +1,472 @@
+//! Random cases: an episode is one terminal's history, all from one seed.
+//!
+//! Most messages are to be accepted, every refusal is to come often and also
+//! beside others, pointers are to stand at the edges, and circles and stacks
+//! are to wrap. So cells are placed where they are sound, as far as there is
+//! room, and are then spoiled on purpose for single messages.
+
+use super::case::{Bench, Message, Request, GUARD_WORDS, REPLY_ROOM};
+use crate::random::Random;
+use crate::terminal::cells::{
+    control_place, lookup_place, stack_pointer_place, Cell, Kind, Scheme, Stack, RAM_WORDS,
+};
+use crate::terminal::message::{cell_kind, REPLY_WORDS};
+use crate::terminal::records::{Record, RECORD_BYTES, RECORD_WORDS};
+use crate::terminal::tables::{busy_place, illegal_place, BitPlace};
+use crate::terminal::words::{Command, BROADCAST_ADDRESS};
+use crate::terminal::{write_record, Settings};
+
+/// Messages of an episode: a stack of 256 words wraps in it from any place.
+pub const EPISODE_MESSAGES: usize = 64;
+
+/// One of so many messages is spoiled in each of the ways there are.
+const SPOILED_ONE_IN: usize = 40;
+
+/// Tries to find a sound place before another scheme is taken.
+const TRIES: usize = 32;
+
+const KINDS: [Kind; 3] = [Kind::Receive, Kind::Transmit, Kind::Broadcast];
+
+/// A word that the host puts into RAM between two messages.
+type Poke = (usize, u16);
+
+pub struct Episode {
+    random: Random,
+    settings: Settings,
+    /// Puts right what was spoiled for the last message.
+    mend: Vec<Poke>,
+    /// What the host has put into RAM for the next message.
+    pokes: Vec<Poke>,
+}
+
+impl Episode {
+    /// The episode of a seed, and the bench that it starts from.
+    pub fn new(seed: u64) -> (Episode, Bench) {
+        let mut random = Random::new(seed);
+        let settings = random.settings();
+        Episode::with_settings(random, settings)
+    }
+
+    pub fn with_settings(random: Random, settings: Settings) -> (Episode, Bench) {
+        let mut episode = Episode {
+            random,
+            settings,
+            mend: Vec::new(),
+            pokes: Vec::new(),
+        };
+        let bench = episode.bench();
+        (episode, bench)
+    }
+
+    fn bench(&mut self) -> Bench {
+        let mut bench = Bench::default();
+        if !self.random.chance(4) {
+            let random = &mut self.random;
+            bench.ram[..RAM_WORDS].fill_with(|| random.word());
+            bench.reply.fill_with(|| random.word());
+        }
+        self.fill_tables(&mut bench.ram);
+        bench.remembered.command = self.random.word();
+        bench.remembered.status = self.random.word();
+        let pointer = self.sound_stack_pointer(&bench.ram);
+        bench.ram[stack_pointer_place(&self.settings)] = pointer;
+        let stack = Stack::read(&bench.ram, &self.settings);
+        for subaddress in 1..=30 {
+            for (place, word) in self.placed_cells(&stack, subaddress) {
+                bench.ram[place] = word;
+            }
+        }
+        bench
+    }
+
+    /// The illegal and busy tables: empty, thin or half full.
+    fn fill_tables(&mut self, ram: &mut [u16]) {
+        for table in [0x0240..0x0248, 0x0300..0x0400] {
+            let style = self.random.below(4);
+            for word in &mut ram[table] {
+                *word = match style {
+                    0 | 1 => 0,
+                    2 => self.random.word() & self.random.word() & self.random.word(),
+                    _ => self.random.word(),
+                };
+            }
+        }
+    }
+
+    /// What is asked next of a terminal on this bench. The host puts words
+    /// into the RAM before; [`Episode::pokes`] are the same for another bench.
+    pub fn step(&mut self, bench: &mut Bench) -> Request {
+        self.pokes.clear();
+        for (place, word) in std::mem::take(&mut self.mend) {
+            self.poke(bench, place, word);
+        }
+        if self.random.chance(4) {
+            self.turn_settings();
+        }
+        let command = self.command();
+        self.aim(bench, command);
+        let mut request = Request {
+            settings: self.settings,
+            ram_words: RAM_WORDS,
+            reply_words: self
+                .random
+                .pick(&[REPLY_WORDS, REPLY_WORDS, 34, REPLY_ROOM]),
+            message: self.message(command),
+            checks_area: self.random.chance(4),
+        };
+        if self.random.chance(SPOILED_ONE_IN) {
+            let lengths = [
+                0,
+                1,
+                256,
+                RAM_WORDS - 1,
+                RAM_WORDS + 1,
+                RAM_WORDS + GUARD_WORDS,
+            ];
+            request.ram_words = self.random.pick(&lengths);
+        }
+        if self.random.chance(SPOILED_ONE_IN) {
+            request.reply_words = self.random.pick(&[0, 1, 16, REPLY_WORDS - 1]);
+        }
+        if self.random.chance(SPOILED_ONE_IN) {
+            self.spoil_settings(&mut request.settings);
+        }
+        if self.random.chance(SPOILED_ONE_IN) {
+            self.spoil_stack(bench);
+        }
+        if self.random.chance(SPOILED_ONE_IN) {
+            self.spoil_cell(bench, command);
+        }
+        request
+    }
+
+    pub fn pokes(&self) -> &[Poke] {
+        &self.pokes
+    }
+
+    fn poke(&mut self, bench: &mut Bench, place: usize, word: u16) {
+        bench.ram[place] = word;
+        self.pokes.push((place, word));
+    }
+
+    /// Puts a word in for this message alone.
+    fn spoil(&mut self, bench: &mut Bench, place: usize, word: u16) {
+        self.mend.push((place, bench.ram[place]));
+        self.poke(bench, place, word);
+    }
+
+    /// New answers to the yes/no settings; the rest stays with the image.
+    fn turn_settings(&mut self) {
+        self.settings = Settings {
+            address: self.settings.address,
+            area_b: self.settings.area_b,
+            stack_size: self.settings.stack_size,
+            ..self.random.settings()
+        };
+    }
+
+    fn spoil_settings(&mut self, settings: &mut Settings) {
+        if self.random.chance(2) {
+            settings.address = self.random.pick(&[31, 32, 37, 63, 0x8005, 0xFFFF]);
+        } else {
+            let sizes = [0, 1, 4, 128, 255, 257, 768, 1023, 4096, 0x8000, 0xFFFF];
+            settings.stack_size = self.random.pick(&sizes);
+        }
+    }
+
+    fn command(&mut self) -> Command {
+        let random = &mut self.random;
+        let address = match random.below(24) {
+            0 => random.below(32) as u16,
+            1..=6 => BROADCAST_ADDRESS,
+            _ => self.settings.address,
+        };
+        let subaddress = match random.below(31) as u16 {
+            0 => random.pick(&[0, 31]),
+            subaddress => subaddress,
+        };
+        let count_field = match random.below(8) {
+            0 | 1 => 0,
+            2 => 31,
+            3 => 1,
+            _ => random.below(32) as u16,
+        };
+        let transmit = random.below(2) as u16;
+        Command(address << 11 | transmit << 10 | subaddress << 5 | count_field)
+    }
+
+    /// What the host changes so that the message finds something to meet.
+    fn aim(&mut self, bench: &mut Bench, command: Command) {
+        let settings = self.settings;
+        if self.random.chance(16) {
+            self.flip(bench, illegal_place(command));
+        }
+        if self.random.chance(16) {
+            self.flip(bench, busy_place(command));
+        }
+        if self.random.chance(16) {
+            // Near the end of its block, where it wraps.
+            let place = stack_pointer_place(&settings);
+            let last = bench.ram[place] | (settings.stack_size - 4);
+            let back = 4 * self.random.below(3) as u16;
+            self.poke(bench, place, last - back);
+        }
+        let stack = Stack::read(&bench.ram, &settings);
+        let subaddress = command.subaddress();
+        match self.random.below(6) {
+            0 => {
+                for (place, word) in self.placed_cells(&stack, subaddress) {
+                    self.poke(bench, place, word);
+                }
+            }
+            1 | 2 => {
+                let kind = cell_kind(command, &settings);
+                let cell = Cell::read(&bench.ram, &settings, kind, subaddress);
+                if let Scheme::Circular(size) = cell.scheme {
+                    let pointer = self.pointer_before_end(cell.pointer, size, command.word_count());
+                    self.poke(bench, lookup_place(&settings, kind, subaddress), pointer);
+                }
+            }
+            _ => {}
+        }
+    }
+
+    fn flip(&mut self, bench: &mut Bench, place: BitPlace) {
+        self.poke(bench, place.word, bench.ram[place.word] ^ 1 << place.bit);
+    }
+
+    /// A pointer into the same circle from which a message of `count` words
+    /// reaches its end, or just not.
+    fn pointer_before_end(&mut self, pointer: u16, size: u16, count: u16) -> u16 {
+        let back = match self.random.below(4) {
+            0 => count,
+            1 => count + 1,
+            2 => count - 1,
+            _ => self.random.below(33) as u16,
+        };
+        let start = pointer & !(size - 1);
+        start | (size.wrapping_sub(back) & (size - 1))
+    }
+
+    fn sound_stack_pointer(&mut self, ram: &[u16]) -> u16 {
+        let mut ram = ram.to_vec();
+        let place = stack_pointer_place(&self.settings);
+        loop {
+            ram[place] = 4 * self.random.below(RAM_WORDS / 4) as u16;
+            if Stack::read(&ram, &self.settings).is_sound(RAM_WORDS) {
+                return ram[place];
+            }
+        }
+    }
+
+    /// Control word and pointers that make the cells of a subaddress sound.
+    fn placed_cells(&mut self, stack: &Stack, subaddress: u16) -> [Poke; 4] {
+        let settings = self.settings;
+        let double = self.random.chance(2);
+        // Interrupt bits at random; the size fields are set below.
+        let mut control = self.random.word() & 0x6318 | if double { 0x8000 } else { 0 };
+        let pokes = KINDS.map(|kind| {
+            let (size_field, pointer) = self.sound_place(stack, kind, double);
+            control |= size_field << size_shift(kind);
+            (lookup_place(&settings, kind, subaddress), pointer)
+        });
+        let [receive, transmit, broadcast] = pokes;
+        let place = control_place(&settings, subaddress);
+        [receive, transmit, broadcast, (place, control)]
+    }
+
+    /// A size field and a pointer with which a cell of this kind is sound.
+    fn sound_place(&mut self, stack: &Stack, kind: Kind, double: bool) -> (u16, u16) {
+        let wanted = match self.random.below(2) {
+            0 => 0,
+            _ => 1 + self.random.below(5) as u16,
+        };
+        // There is always room for a single or a double window.
+        for size_field in [wanted, 0] {
+            let scheme = scheme_of(kind, size_field, double);
+            let tries = if size_field == 0 { usize::MAX } else { TRIES };
+            for _ in 0..tries {
+                let pointer = self.pointer(stack, scheme);
+                if cell_with(kind, scheme, pointer).is_sound(RAM_WORDS, stack) {
+                    return (size_field, pointer);
+                }
+            }
+        }
+        unreachable!("the last scheme is tried until a place is found")
+    }
+
+    /// A pointer that may be sound for the scheme, often at an edge.
+    fn pointer(&mut self, stack: &Stack, scheme: Scheme) -> u16 {
+        let random = &mut self.random;
+        match scheme {
+            Scheme::Single if random.chance(3) => {
+                let before_stack = (stack.block.start as u16).saturating_sub(32);
+                let behind_stack = stack.block.end as u16;
+                random.pick(&[
+                    0x0000,
+                    0x00E0,
+                    0x0248,
+                    0x02E0,
+                    0x0400,
+                    0x0FE0,
+                    before_stack,
+                    behind_stack,
+                ])
+            }
+            Scheme::Single => random.below(RAM_WORDS - RECORD_WORDS) as u16,
+            Scheme::Double => 32 * random.below(RAM_WORDS / 32) as u16,
+            Scheme::Circular(size) => {
+                let size = usize::from(size);
+                let start = size * random.below(RAM_WORDS / size);
+                let offset = match random.below(4) {
+                    0 => 0,
+                    1 => size - 1,
+                    2 => size - 1 - random.below(33),
+                    _ => random.below(size),
+                };
+                (start + offset) as u16
+            }
+        }
+    }
+
+    fn spoil_stack(&mut self, bench: &mut Bench) {
+        let place = stack_pointer_place(&self.settings);
+        let pointer = bench.ram[place];
+        let bad = match self.random.below(4) {
+            0 => pointer ^ self.random.pick(&[1, 2, 3]),
+            1 => self
+                .random
+                .pick(&[0x0FFD, 0x1000, 0x1FFC, 0x8000, 0xFFFC, 0xFFFF]),
+            2 => self
+                .random
+                .pick(&[0x00FC, 0x0100, 0x01FC, 0x0200, 0x02FC, 0x0300, 0x03FC]),
+            _ => self.random.word(),
+        };
+        self.spoil(bench, place, bad);
+    }
+
+    /// A pointer or a control word with which the message's cell is unsound,
+    /// or sound only just.
+    fn spoil_cell(&mut self, bench: &mut Bench, command: Command) {
+        let settings = self.settings;
+        let kind = cell_kind(command, &settings);
+        let stack = Stack::read(&bench.ram, &settings).block;
+        let (start, end) = (stack.start as u16, stack.end as u16);
+        if self.random.chance(4) {
+            let place = control_place(&settings, command.subaddress());
+            let size_field = self.random.pick(&[1, 2, 3, 4, 5, 6, 7]);
+            let control = bench.ram[place] | size_field << size_shift(kind);
+            self.spoil(bench, place, control);
+        } else {
+            let place = lookup_place(&settings, kind, command.subaddress());
+            let bad = match self.random.below(4) {
+                0 => self.random.word(),
+                1 => self.random.pick(&[
+                    start.wrapping_sub(31),
+                    start.wrapping_sub(32),
+                    start,
+                    end.wrapping_sub(1),
+                    end,
+                ]),
+                2 => bench.ram[place] ^ self.random.pick(&[1, 16, 0x1000, 0x8000]),
+                _ => self.random.pick(&[
+                    0x00E0, 0x00E1, 0x00FF, 0x0100, 0x0247, 0x0248, 0x02E0, 0x02E1, 0x0300, 0x03FF,
+                    0x0400, 0x0FE0, 0x0FE1, 0x0FFF, 0x1000, 0xFFE0, 0xFFFF,
+                ]),
+            };
+            self.spoil(bench, place, bad);
+        }
+    }
+
+    fn message(&mut self, command: Command) -> Message {
+        let record = self.random.record_for(command);
+        if self.random.chance(2) {
+            return Message::Value(self.value(record));
+        }
+        let mut bytes = self.bytes(&record).to_vec();
+        if self.random.chance(SPOILED_ONE_IN) {
+            let length = self.random.pick(&[0, 1, 16, 79, 81, 96, 160]);
+            bytes.resize(length, 0);
+        }
+        Message::Bytes(bytes)
+    }
+
+    /// The bytes of a whole record, of which some keep the layout no more.
+    pub fn record(&mut self) -> [u8; RECORD_BYTES] {
+        let command = self.command();
+        let record = self.random.record_for(command);
+        self.bytes(&record)
+    }
+
+    /// The value of a record, now and then spoiled.
+    fn value(&mut self, mut record: Record) -> Record {
+        if self.random.chance(SPOILED_ONE_IN) {
+            match self.random.below(3) {
+                0 => record.flags = self.random.pick(&[8, 15, 64, 128, 255, 256, 0xFFFF]),
+                1 => record.count = self.random.pick(&[34, 64, 255, 256, 288, 0xFFFF]),
+                _ => {
+                    record.count = self.random.below(RECORD_WORDS) as u16;
+                    record.words[usize::from(record.count)..].fill(0);
+                    let after = self.random.below(RECORD_WORDS - record.words_held());
+                    record.words[record.words_held() + after] = 1 << self.random.below(16);
+                }
+            }
+        }
+        record
+    }
+
+    /// The bytes of a record, now and then spoiled.
+    fn bytes(&mut self, record: &Record) -> [u8; RECORD_BYTES] {
+        let mut bytes = write_record(record).expect("the record keeps its layout");
+        if self.random.chance(SPOILED_ONE_IN) {
+            match self.random.below(4) {
+                0 => bytes[6] = self.random.pick(&[8, 16, 128, 255]),
+                1 => bytes[7] = self.random.pick(&[34, 35, 64, 255]),
+                2 => {
+                    let place = self.random.pick(&[2, 3, 8, 9, 10, 11, 12, 13, 14, 15]);
+                    bytes[place] = 1 << self.random.below(8);
+                }
+                _ => {
+                    // The first byte or the last one that must be zero, or one
+                    // between; a full record has none and stays good.
+                    let held = 16 + 2 * record.words_held();
+                    if held < RECORD_BYTES {
+                        let between = held + self.random.below(RECORD_BYTES - held);
+                        let place = self.random.pick(&[held, RECORD_BYTES - 1, between]);
+                        bytes[place] = 1 << self.random.below(8);
+                    }
+                }
+            }
+        }
+        bytes
+    }
+}
+
+/// Where the size field of a kind begins in a control word.
+fn size_shift(kind: Kind) -> u32 {
+    match kind {
+        Kind::Receive => 5,
+        Kind::Transmit => 10,
+        Kind::Broadcast => 0,
+    }
+}
+
+fn scheme_of(kind: Kind, size_field: u16, double: bool) -> Scheme {
+    match size_field {
+        0 if double && kind != Kind::Transmit => Scheme::Double,
+        0 => Scheme::Single,
+        field => Scheme::Circular(64 << field),
+    }
+}
+
+/// A cell for asking whether its place is sound.
+fn cell_with(kind: Kind, scheme: Scheme, pointer: u16) -> Cell {
+    Cell {
+        kind,
+        subaddress: 1,
+        pointer,
+        scheme,
+        message_interrupt: false,
+        circular_interrupt: false,
+    }
+}

@@ -1,0 +1,73 @@
+//! The comparison itself: episode after episode, both sides on each message.
+
+use super::case::{ask, Case};
+use super::coverage::{Before, Coverage};
+use super::episode::{Episode, EPISODE_MESSAGES};
+use super::sides::Side;
+
+/// A message on which two terminals differ.
+pub struct Finding {
+    /// The seed of its episode.
+    pub seed: u64,
+    /// Its place in the episode, from 1 on.
+    pub message: usize,
+    pub case: Case,
+}
+
+/// Runs the episodes of the seeds from `first_seed` on, until both sides have
+/// had at least so many messages or differ on one.
+pub fn compare(
+    left: &impl Side,
+    right: &impl Side,
+    first_seed: u64,
+    messages: u64,
+    coverage: &mut Coverage,
+) -> Option<Finding> {
+    let mut seed = first_seed;
+    while coverage.messages() < messages {
+        if let Some(finding) = run_episode(left, right, seed, coverage) {
+            return Some(finding);
+        }
+        seed += 1;
+    }
+    None
+}
+
+fn run_episode(
+    left: &impl Side,
+    right: &impl Side,
+    seed: u64,
+    coverage: &mut Coverage,
+) -> Option<Finding> {
+    let (mut episode, mut left_bench) = Episode::new(seed);
+    let mut right_bench = left_bench.clone();
+    for message in 1..=EPISODE_MESSAGES {
+        let request = episode.step(&mut left_bench);
+        for &(place, word) in episode.pokes() {
+            right_bench.ram[place] = word;
+        }
+        let before = Before::read(&left_bench, &request);
+        let left_answers = ask(left, &mut left_bench, &request);
+        let right_answers = ask(right, &mut right_bench, &request);
+        if left_answers != right_answers || left_bench != right_bench {
+            return Some(Finding {
+                seed,
+                message,
+                case: case_of(left, seed, message),
+            });
+        }
+        coverage.take_in(&before, &request, &left_answers);
+    }
+    None
+}
+
+/// Runs an episode again on one side, up to one of its messages.
+fn case_of(side: &impl Side, seed: u64, message: usize) -> Case {
+    let (mut episode, mut bench) = Episode::new(seed);
+    for _ in 1..message {
+        let request = episode.step(&mut bench);
+        ask(side, &mut bench, &request);
+    }
+    let request = episode.step(&mut bench);
+    Case { bench, request }
+}

@@ -1,0 +1,146 @@
+//! The functions of `include/solkverva.h`, over slices.
+//!
+//! The header asks one thing of its callers: that nothing written overlaps
+//! anything else of the same call. Borrowed slices keep to that by themselves,
+//! so these functions are safe to call with slices of any contents and length.
+
+/// Words of the settings: see the header for each.
+pub const SETTINGS_WORDS: usize = 11;
+/// Words of what is remembered.
+pub const REMEMBERED_WORDS: usize = 2;
+/// Words of a record value.
+pub const VALUE_WORDS: usize = 36;
+/// Words of an answer.
+pub const ANSWER_WORDS: usize = 9;
+
+mod linked {
+    extern "C" {
+        pub fn solkverva_check_area(
+            ram: *const u16,
+            ram_words: usize,
+            settings: *const u16,
+            settings_words: usize,
+        ) -> u32;
+
+        pub fn solkverva_message(
+            ram: *mut u16,
+            ram_words: usize,
+            reply: *mut u16,
+            reply_words: usize,
+            settings: *const u16,
+            settings_words: usize,
+            remembered: *mut u16,
+            remembered_words: usize,
+            bytes: *const u8,
+            bytes_length: usize,
+            answer: *mut u16,
+            answer_words: usize,
+        );
+
+        pub fn solkverva_message_value(
+            ram: *mut u16,
+            ram_words: usize,
+            reply: *mut u16,
+            reply_words: usize,
+            settings: *const u16,
+            settings_words: usize,
+            remembered: *mut u16,
+            remembered_words: usize,
+            value: *const u16,
+            value_words: usize,
+            answer: *mut u16,
+            answer_words: usize,
+        );
+
+        pub fn solkverva_read(
+            bytes: *const u8,
+            bytes_length: usize,
+            value: *mut u16,
+            value_words: usize,
+        ) -> u16;
+
+        pub fn solkverva_write(
+            value: *const u16,
+            value_words: usize,
+            bytes: *mut u8,
+            bytes_length: usize,
+        ) -> u16;
+    }
+}
+
+/// The number in the upper 16 bits, the lowest unsound cell in the lower.
+pub fn check_area(ram: &[u16], settings: &[u16]) -> u32 {
+    // SAFETY: each pointer and length is a slice's; nothing is written.
+    unsafe {
+        linked::solkverva_check_area(ram.as_ptr(), ram.len(), settings.as_ptr(), settings.len())
+    }
+}
+
+/// One message from the bytes of a record.
+pub fn message(
+    ram: &mut [u16],
+    reply: &mut [u16],
+    settings: &[u16],
+    remembered: &mut [u16],
+    bytes: &[u8],
+    answer: &mut [u16],
+) {
+    // SAFETY: each pointer and length is a slice's, and what is written is
+    // borrowed for this call alone.
+    unsafe {
+        linked::solkverva_message(
+            ram.as_mut_ptr(),
+            ram.len(),
+            reply.as_mut_ptr(),
+            reply.len(),
+            settings.as_ptr(),
+            settings.len(),
+            remembered.as_mut_ptr(),
+            remembered.len(),
+            bytes.as_ptr(),
+            bytes.len(),
+            answer.as_mut_ptr(),
+            answer.len(),
+        )
+    }
+}
+
+/// One message from the words of a record value.
+pub fn message_value(
+    ram: &mut [u16],
+    reply: &mut [u16],
+    settings: &[u16],
+    remembered: &mut [u16],
+    value: &[u16],
+    answer: &mut [u16],
+) {
+    // SAFETY: as for `message`.
+    unsafe {
+        linked::solkverva_message_value(
+            ram.as_mut_ptr(),
+            ram.len(),
+            reply.as_mut_ptr(),
+            reply.len(),
+            settings.as_ptr(),
+            settings.len(),
+            remembered.as_mut_ptr(),
+            remembered.len(),
+            value.as_ptr(),
+            value.len(),
+            answer.as_mut_ptr(),
+            answer.len(),
+        )
+    }
+}
+
+/// The record reader: 0, 4 or 5, and the value's words.
+pub fn read(bytes: &[u8], value: &mut [u16]) -> u16 {
+    // SAFETY: as for `message`.
+    unsafe { linked::solkverva_read(bytes.as_ptr(), bytes.len(), value.as_mut_ptr(), value.len()) }
+}
+
+/// The record writer: 0 or 5, and the record's bytes.
+pub fn write(value: &[u16], bytes: &mut [u8]) -> u16 {
+    // SAFETY: as for `message`.
+    unsafe { linked::solkverva_write(value.as_ptr(), value.len(), bytes.as_mut_ptr(), bytes.len()) }
+}

@@ -1,0 +1,98 @@
+//! A small random generator (xorshift), the same in every run for a seed, and
+//! the random inputs that tests and comparisons share.
+
+use crate::terminal::records::{Record, RECORD_WORDS, TOO_MANY};
+use crate::terminal::words::{Command, BROADCAST_ADDRESS};
+use crate::terminal::Settings;
+
+#[derive(Clone, Debug)]
+pub struct Random(u64);
+
+impl Random {
+    pub fn new(seed: u64) -> Random {
+        Random(seed.wrapping_mul(0x9E37_79B9_7F4A_7C15) | 1)
+    }
+
+    /// The next 48 bits.
+    pub fn draw(&mut self) -> u64 {
+        self.0 ^= self.0 << 13;
+        self.0 ^= self.0 >> 7;
+        self.0 ^= self.0 << 17;
+        self.0 >> 16
+    }
+
+    /// A number from 0 on and under `limit`.
+    pub fn below(&mut self, limit: usize) -> usize {
+        (self.draw() % limit as u64) as usize
+    }
+
+    /// Yes in one of `one_in` cases.
+    pub fn chance(&mut self, one_in: usize) -> bool {
+        self.below(one_in) == 0
+    }
+
+    pub fn word(&mut self) -> u16 {
+        self.draw() as u16
+    }
+
+    pub fn pick<T: Copy>(&mut self, choices: &[T]) -> T {
+        choices[self.below(choices.len())]
+    }
+
+    pub fn bytes(&mut self, length: usize) -> Vec<u8> {
+        (0..length).map(|_| self.draw() as u8).collect()
+    }
+
+    /// Settings that are not refused.
+    pub fn settings(&mut self) -> Settings {
+        Settings {
+            address: self.below(31) as u16,
+            area_b: self.chance(2),
+            stack_size: self.pick(&[256, 512, 1024, 2048]),
+            overwrite_invalid: self.chance(2),
+            separate_broadcast: self.chance(2),
+            illegal_receive_disable: self.chance(2),
+            busy_receive_disable: self.chance(2),
+            busy_always: self.chance(8),
+            service_request: self.chance(2),
+            subsystem_flag: self.chance(2),
+            terminal_flag: self.chance(2),
+        }
+    }
+
+    /// A record that keeps its layout, mostly to `address` and mostly good.
+    pub fn record(&mut self, address: u16) -> Record {
+        let to = match self.below(16) {
+            0 => self.below(32) as u16,
+            1..=4 => BROADCAST_ADDRESS,
+            _ => address,
+        };
+        let command = to << 11 | self.word() & 0x07FF;
+        self.record_for(Command(command))
+    }
+
+    /// A record of this command that keeps its layout, with or without faults.
+    pub fn record_for(&mut self, command: Command) -> Record {
+        let expected = if command.is_transmit() {
+            0
+        } else {
+            command.word_count()
+        };
+        let count = match self.below(9) {
+            0 => self.below(34) as u16,
+            1 => expected.saturating_sub(1),
+            2 => (expected + 1).min(TOO_MANY),
+            _ => expected,
+        };
+        let mut record = Record {
+            command: command.0,
+            tag: self.word(),
+            flags: self.pick(&[0, 0, 0, 0, 0, 0, 0, 0, 1, 1, 1, 1, 1, 1, 2, 3, 4, 5, 6, 7]),
+            count,
+            words: [0; RECORD_WORDS],
+        };
+        let held = record.words_held();
+        record.words[..held].fill_with(|| self.word());
+        record
+    }
+}

@@ -1,0 +1,58 @@
+//! The comparison can fail: it tells every planted error from a good terminal,
+//! and makes the case small and readable.
+
+use bench_side::compare::coverage::Coverage;
+use bench_side::compare::replay::{read_case, write_case};
+use bench_side::compare::shrink::shrink;
+use bench_side::compare::{compare, Case, Plain};
+use bench_side::terminal::Planted;
+
+const GOOD: Plain = Plain(Planted::None);
+
+/// The smallest case on which a planted error shows.
+fn caught(planted: Planted) -> Case {
+    let planted = Plain(planted);
+    let mut coverage = Coverage::default();
+    let finding = compare(&planted, &GOOD, 1, 100_000, &mut coverage);
+    let case = finding.expect("the comparison finds the error").case;
+    assert!(case.differs(&planted, &GOOD));
+    shrink(&case, |case| case.differs(&planted, &GOOD))
+}
+
+#[test]
+fn every_class_occurs_and_nothing_differs() {
+    let mut coverage = Coverage::default();
+    let finding = compare(&GOOD, &GOOD, 1, 60_000, &mut coverage);
+    assert!(finding.is_none());
+    assert_eq!(coverage.missing(), Vec::<&str>::new(), "{coverage}");
+}
+
+#[test]
+fn every_planted_error_is_caught() {
+    for planted in Planted::ERRORS {
+        let case = caught(planted);
+        let words = case.bench.ram.iter().filter(|&&word| word != 0).count();
+        assert!(words <= 4, "{}:\n{}", planted.name(), write_case(&case));
+        let lines = case.differences(&Plain(planted), &GOOD);
+        assert!(!lines.is_empty());
+    }
+}
+
+#[test]
+fn a_case_can_be_written_and_read_again() {
+    for planted in Planted::ERRORS {
+        let case = caught(planted);
+        let text = write_case(&case);
+        let again = read_case(&text).unwrap();
+        assert!(again.differs(&Plain(planted), &GOOD), "{text}");
+        assert_eq!(write_case(&again), text);
+    }
+}
+
+#[test]
+fn errors_have_names() {
+    for planted in Planted::ERRORS {
+        assert_eq!(Planted::named(planted.name()), Some(planted));
+    }
+    assert_eq!(Planted::named("none"), None);
+}
