@@ -75,6 +75,7 @@ fn lowest_unsound(ram: &[u16], s: Settings) -> u16
 pub fn check_area(ram: &[u16], s: Settings) -> Checked
     ensures { λ r. ⌜ r ≡ checkArea (now (ram .entry)) s ⌝ }
 {
+    let sound = stack_sound(ram, s);
     let cell = lowest_unsound(ram, s);
     let number = first_refusal(Grounds {
         ram: ram_refused(ram.len()),
@@ -84,7 +85,7 @@ pub fn check_area(ram: &[u16], s: Settings) -> Checked
         layout: false,
         address: false,
         subaddress: false,
-        stack: no(stack_sound(ram, s)),
+        stack: no(sound),
         cell: cell != 0,
     });
     Checked {

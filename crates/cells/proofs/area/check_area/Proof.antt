@@ -4,6 +4,9 @@ use Rattle.cells.specs.Area.{checkArea, areaRefusal, areaGrounds}
 use Rattle.cells.proofs.area.check_area.Statement.{statement}
 use Rattle.cells.proofs.area.check_area.Tie as tie
 
+stack-sound-requires : tie.Need-stack-sound-requires
+stack-sound-requires c κs = search needs
+
 lowest-unsound-requires : tie.Need-lowest-unsound-requires
 lowest-unsound-requires c κs = search needs
 
@@ -12,9 +15,6 @@ ram-refused-requires c κs = search needs
 
 settings-refused-requires : tie.Need-settings-refused-requires
 settings-refused-requires c κs = search needs
-
-stack-sound-requires : tie.Need-stack-sound-requires
-stack-sound-requires c κs = search needs
 
 no-requires : tie.Need-no-requires
 no-requires c κs = search needs
@@ -33,10 +33,10 @@ pub check-area-spec : {M : Type 1} → statement M
 check-area-spec =
     tie.close
     (tie.spec
+    stack-sound-requires
     lowest-unsound-requires
     ram-refused-requires
     settings-refused-requires
-    stack-sound-requires
     no-requires
     first-refusal-requires
     pick-requires
