@@ -7,7 +7,7 @@ use mathlib.Core.Path.{_≡_, refl}
 use mathlib.Core.List.{List, [], _∷_, _++_}
 use lib.ListN.{length, getD, set, take, length-append}
 use lib.Seq.{sets, take-suc, set-comm, length-take-le}
-use Rattle.trace.specs.Text.{hexDigit, hexText}
+use Rattle.trace.specs.Text.{hexDigit, hexText, Put}
 
 -- two runs, the second from where the first ends, are their append
 pub sets-append :
@@ -53,3 +53,22 @@ pub sets-hex :
     (hexDigit (w % 16))
 unfolding hexText
 sets-hex l at w = sets-four l at _ _ _ _
+
+pub length-hex : (w : ℕ) → length (hexText w) ≡ 4
+unfolding hexText
+length-hex w = refl
+
+-- text after text
+pub put-then :
+    {l l₁ l₂ xs ys : List ℕ} {at p q : ℕ} → Put l at xs l₁ p → Put l₁ p ys l₂ q → Put l at (xs ++ ys) l₂ q
+put-then {l} {l₁} {l₂} {xs} {ys} {at} a b =
+    record {
+      bytes = rw (← sets-append l xs ys at, ← a .bytes, ← a .place) (b .bytes);
+      place = rw length-append (omega (arith, a .place, b .place));
+    }
+
+-- text after a byte
+pub put-cons :
+    {l l₁ l₂ xs : List ℕ} {at b p : ℕ} → l₁ ≡ set l at b → Put l₁ (at + 1) xs l₂ p → Put l at (b ∷ xs) l₂ p
+put-cons {l} {l₁} {l₂} {xs} {at} {b} e a =
+    record { bytes = rw (← e, ← add-one) (a .bytes); place = omega (arith, a .place) }

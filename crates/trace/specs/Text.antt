@@ -1,7 +1,10 @@
--- Numbers as text, in ASCII. "Stored words are four hexadecimal digits, the rest decimal."
+-- Numbers as text, in ASCII, and text put into a buffer. "Stored words are four hexadecimal digits, the rest decimal."
 use Prim.Native.Nat.{ℕ, zero, suc, _+_, _/_, _%_}
+use mathlib.Core.Path.{_≡_}
 use mathlib.Core.Bool.{cond}
 use mathlib.Core.List.{List, [], _∷_, _++_}
+use lib.ListN.{length}
+use lib.Seq.{sets}
 use lib.Dec.{ltb}
 
 -- `0` to `9`, then `A` to `F`
@@ -27,9 +30,12 @@ placesUpTo (suc most) n = cond (ltb n 10) 1 (suc (placesUpTo most (n / 10)))
 unfoldable pub decimalText : ℕ → List ℕ
 decimalText n = digits (placesUpTo 19 n) n
 
--- a space, and the end of a line
-abbrev pub space : List ℕ
-space = 32 ∷ []
-
+-- the end of a line
 abbrev pub newline : List ℕ
 newline = 10 ∷ []
+
+-- `text` put into the buffer `old` from the place `at` on gives the buffer `new`, and `next` is the place after it.
+-- What lies past the buffer's end is dropped.
+pub record Put (old : List ℕ) (at : ℕ) (text : List ℕ) (new : List ℕ) (next : ℕ) : Type 0 where
+  pub bytes : new ≡ sets old at text
+  pub place : next ≡ at + length text

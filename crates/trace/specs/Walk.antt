@@ -1,8 +1,10 @@
 -- Walking a trace: message by message over its whole records. "Walking a trace hands on the next 80 bytes from the middle of
 -- what was read."
 use Prim.Native.Nat.{ℕ, zero, suc, _+_, _*_, _/_, _%_, _^_}
+use mathlib.Core.Path.{_≡_}
 use mathlib.Core.List.{List, [], _++_}
 use lib.ListN.{length, take, drop}
+use lib.Seq.{sets}
 use Rattle.words.specs.declared.settings.Settings.{Settings}
 use Rattle.words.specs.declared.settings.Remembered.{Remembered}
 use Rattle.message.specs.declared.answer.Answer.{Answer}
@@ -56,3 +58,10 @@ walkAll s trace w = walkTo s trace w (wholeRecords trace)
 -- what the function hands back by value
 abbrev pub walkedOf : Walk → Walked
 walkedOf w = record { remembered = w .state .remembered; number = w .number; used = length (w .text) }
+
+-- one record's walk, with its line at a place of the lent buffer `room`: every lent word afterwards, and what is handed back
+pub record Leaves (w : Walk) (room : List ℕ) (at : ℕ) (ram reply out : List ℕ) (walked : Walked) : Type 0 where
+  pub memory : ram ≡ w .state .ram
+  pub answer : reply ≡ w .state .reply
+  pub line : out ≡ sets room at (w .text)
+  pub back : walked ≡ record { remembered = w .state .remembered; number = w .number; used = at + length (w .text) }

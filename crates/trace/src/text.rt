@@ -3,9 +3,9 @@ ghost use mathlib.Core.Path.{_≡_};
 ghost use Prim.Native.Nat.{_+_, _≤_, _<_, _^_};
 ghost use lib.ListN.{length, set};
 ghost use lib.Seq.{sets};
-ghost use Rattle.trace.specs.Text.{hexDigit, hexText, digits, placesUpTo, decimalText};
+ghost use Rattle.trace.specs.Text.{Put, hexDigit, hexText, digits, placesUpTo, decimalText};
 
-fn put_byte(out: &mut [u8], at: usize, b: u8)
+pub(crate) fn put_byte(out: &mut [u8], at: usize, b: u8)
     ensures { λ r. ⌜ now (out .exit) ≡ set (now (out .entry)) at b ⌝ }
 {
     if at < out.len() {
@@ -15,9 +15,8 @@ fn put_byte(out: &mut [u8], at: usize, b: u8)
 
 // The bytes of `s` at `at`, and the place after them.
 pub(crate) fn put_bytes(out: &mut [u8], at: usize, s: &[u8]) -> usize
-    requires { ⌜ at ≤ 2 ^ 62 ⌝ }
-    ensures next { λ r. ⌜ r ≡ at + length (now (s .entry)) ⌝ }
-    ensures out { λ r. ⌜ now (out .exit) ≡ sets (now (out .entry)) at (now (s .entry)) ⌝ }
+    requires { ⌜ (at ≤ 2 ^ 63 + 1024) × (length (now s) ≤ 21) ⌝ }
+    ensures { λ r. ⌜ Put (now (out .entry)) at (now (s .entry)) (now (out .exit)) r ⌝ }
 {
     let mut i: usize = 0;
     while i < s.len() {
@@ -36,9 +35,8 @@ fn hex_digit(d: u16) -> u8
 
 // Four hexadecimal digits, and the place after them.
 pub(crate) fn put_hex(out: &mut [u8], at: usize, w: u16) -> usize
-    requires { ⌜ at ≤ 2 ^ 62 ⌝ }
-    ensures next { λ r. ⌜ r ≡ at + 4 ⌝ }
-    ensures out { λ r. ⌜ now (out .exit) ≡ sets (now (out .entry)) at (hexText w) ⌝ }
+    requires { ⌜ at ≤ 2 ^ 63 + 1024 ⌝ }
+    ensures { λ r. ⌜ Put (now (out .entry)) at (hexText w) (now (out .exit)) r ⌝ }
 {
     put_byte(out, at, hex_digit(w / 4096 % 16));
     put_byte(out, at + 1, hex_digit(w / 256 % 16));
@@ -62,7 +60,7 @@ fn places(n: u64) -> usize
 
 // The last k decimal digits of n, written from the last one back.
 fn put_digits(out: &mut [u8], at: usize, k: usize, n: u64)
-    requires { ⌜ (at ≤ 2 ^ 62) × (k ≤ 20) ⌝ }
+    requires { ⌜ (at ≤ 2 ^ 63 + 1024) × (k ≤ 20) ⌝ }
     ensures { λ r. ⌜ now (out .exit) ≡ sets (now (out .entry)) at (digits k n) ⌝ }
 {
     let mut i = k;
@@ -76,9 +74,9 @@ fn put_digits(out: &mut [u8], at: usize, k: usize, n: u64)
 
 // A decimal number, and the place after it.
 pub(crate) fn put_decimal(out: &mut [u8], at: usize, n: u64) -> usize
-    requires { ⌜ at ≤ 2 ^ 62 ⌝ }
-    ensures next { λ r. ⌜ r ≡ at + length (decimalText n) ⌝ }
-    ensures out { λ r. ⌜ now (out .exit) ≡ sets (now (out .entry)) at (decimalText n) ⌝ }
+    requires { ⌜ at ≤ 2 ^ 63 + 1024 ⌝ }
+    ensures text { λ r. ⌜ Put (now (out .entry)) at (decimalText n) (now (out .exit)) r ⌝ }
+    ensures near { λ r. ⌜ r ≤ at + 20 ⌝ }
 {
     let k = places(n);
     put_digits(out, at, k, n);

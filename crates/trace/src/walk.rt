@@ -1,8 +1,11 @@
 // Walking a trace: each whole record to the terminal, each answer to a line.
 ghost use mathlib.Core.Path.{_≡_};
+ghost use Prim.Native.Nat.{_≤_, _^_};
 ghost use lib.Seq.{sets};
-ghost use Rattle.trace.specs.Walk.{walkStart, walkAll, walkedOf};
+ghost use Rattle.trace.specs.Walk.{Leaves, walkStart, walkRecord, walkAll, walkedOf};
+use crate::line::put_line;
 use message::serve::message_from_bytes;
+use std::num::wrapping_add_u64;
 use words::settings::Remembered;
 use words::settings::Settings;
 
@@ -11,4 +14,59 @@ pub struct Walked {
     pub remembered: Remembered,
     pub number: u64,
     pub used: usize,
+}
+
+// One record: to the terminal, and its line after the text so far.
+fn walk_one(
+    ram: &mut [u16],
+    reply: &mut [u16],
+    out: &mut [u8],
+    s: Settings,
+    w: Walked,
+    bytes: &[u8],
+) -> Walked
+    requires { ⌜ w .used ≤ 2 ^ 63 ⌝ }
+    ensures { λ r. ⌜ Leaves (walkRecord s (now (bytes .entry)) (walkStart (now (ram .entry)) (now (reply .entry)) (w .remembered) (w .number))) (now (out .entry)) (w .used) (now (ram .exit)) (now (reply .exit)) (now (out .exit)) r ⌝ }
+{
+    let before = w.remembered;
+    let outcome = message_from_bytes(ram, reply, s, before, bytes);
+    let answer = outcome.answer;
+    let remembered = outcome.remembered;
+    let number = wrapping_add_u64(w.number, 1);
+    let used = put_line(out, w.used, number, answer);
+    Walked {
+        remembered,
+        number,
+        used,
+    }
+}
+
+// All whole records of the trace. The record at the current place is handed on from the middle of what was read.
+pub fn walk(
+    ram: &mut [u16],
+    reply: &mut [u16],
+    out: &mut [u8],
+    s: Settings,
+    before: Remembered,
+    number: u64,
+    trace: &[u8],
+) -> Walked
+    ensures back { λ r. ⌜ r ≡ walkedOf (walkAll s (now (trace .entry)) (walkStart (now (ram .entry)) (now (reply .entry)) before number)) ⌝ }
+    ensures ram { λ r. ⌜ now (ram .exit) ≡ walkAll s (now (trace .entry)) (walkStart (now (ram .entry)) (now (reply .entry)) before number) .state .ram ⌝ }
+    ensures reply { λ r. ⌜ now (reply .exit) ≡ walkAll s (now (trace .entry)) (walkStart (now (ram .entry)) (now (reply .entry)) before number) .state .reply ⌝ }
+    ensures out { λ r. ⌜ now (out .exit) ≡ sets (now (out .entry)) 0 (walkAll s (now (trace .entry)) (walkStart (now (ram .entry)) (now (reply .entry)) before number) .text) ⌝ }
+{
+    let records = trace.len() / 80;
+    let mut w = Walked {
+        remembered: before,
+        number,
+        used: 0,
+    };
+    let mut i: usize = 0;
+    while i < records {
+        let at = 80 * i;
+        w = walk_one(ram, reply, out, s, w, &trace[at..at + 80]);
+        i += 1;
+    }
+    w
 }

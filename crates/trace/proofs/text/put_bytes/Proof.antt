@@ -49,7 +49,7 @@ same-length c = rw (c .before .loop .inv .1, length-sets)
 returns : tie.Need-returns Inv-loop μ-loop
 returns c =
     let e : c .before .loop .i ≡ length (now (c .before .before .before .before .args .s)) = omega arith in
-    (omega arith, rw (e, take-length) at (c .before .loop .inv .1))
+    record { bytes = rw (e, take-length) at (c .before .loop .inv .1); place = omega arith }
 
 pub put-bytes-spec : {M : Type 1} → statement M
 put-bytes-spec =

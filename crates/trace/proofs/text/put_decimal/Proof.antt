@@ -20,7 +20,8 @@ same-length c = search needs
 
 returns : tie.Need-returns
 unfolding decimalText
-returns c = (rw length-digits (cc), cc)
+returns c =
+    (record { bytes = cc; place = rw length-digits (cc) }, omega (arith, places-most 19 (c .before .before .before .before .before .before .args .n)))
 
 pub put-decimal-spec : {M : Type 1} → statement M
 put-decimal-spec =

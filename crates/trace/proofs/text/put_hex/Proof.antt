@@ -1,7 +1,6 @@
 -- `put_hex` meets its contract.
-use mathlib.Core.Path.{refl}
 use borrow.Author.Needs.{needs}
-use Rattle.trace.proofs.Runs.{sets-hex}
+use Rattle.trace.proofs.Runs.{sets-hex, length-hex}
 use Rattle.trace.proofs.text.put_hex.Statement.{statement}
 use Rattle.trace.proofs.text.put_hex.Tie as tie
 
@@ -45,7 +44,7 @@ same-length : tie.Need-same-length
 same-length c = search needs
 
 returns : tie.Need-returns
-returns c = (refl, rw sets-hex (cc))
+returns c = record { bytes = rw sets-hex (cc); place = rw length-hex }
 
 pub put-hex-spec : {M : Type 1} → statement M
 put-hex-spec =

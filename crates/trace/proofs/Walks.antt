@@ -1,0 +1,79 @@
+-- Where a walk stands after some records.
+use Prim.Native.Nat.{ℕ, zero, suc, _+_, _*_, _≤_}
+use native.Mathlib.Nat.{zero-add}
+use native.Mathlib.Numerals.{add-one}
+use native.Mathlib.Omega.{arith}
+use mathlib.Core.Path.{_≡_, refl}
+use mathlib.Core.List.{List, _++_}
+use lib.ListN.{length, length-append}
+use lib.Seq.{sets}
+use Rattle.words.specs.declared.settings.Settings.{Settings}
+use Rattle.words.specs.declared.settings.Remembered.{Remembered}
+use Rattle.message.specs.Run.{stepBytes}
+use Rattle.trace.specs.declared.walk.Walked.{Walked}
+use Rattle.trace.specs.Line.{lineOf}
+use Rattle.trace.specs.Walk.{Walk, Leaves, recordAt, nextNumber, answerTo, walkRecord, walkTo, walkStart, walkedOf}
+use Rattle.trace.proofs.Runs.{sets-append}
+use Rattle.trace.proofs.Lines.{line-most}
+
+pub walk-more :
+    (s : Settings) (trace : List ℕ) (w : Walk) (n : ℕ) →
+    walkTo s trace w (n + 1) ≡ walkRecord s (recordAt trace n) (walkTo s trace w n)
+unfolding walkTo
+walk-more s trace w n = rw add-one
+
+-- the text grows by less than 80 bytes with each record of 80 bytes
+pub text-most :
+    (s : Settings) (trace : List ℕ) (w : Walk) (n : ℕ) → length (walkTo s trace w n .text) ≤ length (w .text) + 72 * n
+unfolding walkTo walkRecord
+text-most s trace w zero = omega arith
+text-most s trace w (suc n) =
+    rw length-append
+    (omega (
+      arith,
+      text-most s trace w n,
+      line-most (nextNumber (walkTo s trace w n .number)) (answerTo s (recordAt trace n) (walkTo s trace w n .state)),
+    ))
+
+-- the walk so far, its text from the front of the lent buffer `room`
+pub record Stands (w : Walk) (room ram reply out : List ℕ) (walked : Walked) : Type 0 where
+  pub memory : ram ≡ w .state .ram
+  pub answer : reply ≡ w .state .reply
+  pub text : out ≡ sets room 0 (w .text)
+  pub back : walked ≡ walkedOf w
+
+record-stands :
+    (s : Settings) (bytes : List ℕ) (w : Walk) (room ram reply out ram₁ reply₁ out₁ : List ℕ) (walked walked₁ : Walked) →
+    Stands w room ram reply out walked →
+    Leaves (walkRecord s bytes (walkStart ram reply (walked .remembered) (walked .number))) out (walked .used) ram₁ reply₁ out₁ walked₁ →
+    Stands (walkRecord s bytes w) room ram₁ reply₁ out₁ walked₁
+unfolding walkRecord stepBytes
+record-stands s bytes w room ram reply out ram₁ reply₁ out₁ walked walked₁ a b =
+    let line : List ℕ = lineOf (nextNumber (w .number)) (answerTo s bytes (w .state)) in
+    record {
+      memory = cc;
+      answer = cc;
+      text = rw (← sets-append room (w .text) line 0, zero-add) (cc);
+      back = rw length-append (cc);
+    }
+
+pub stands-none :
+    (s : Settings) (trace ram reply room : List ℕ) (before : Remembered) (number : ℕ) →
+    Stands (walkTo s trace (walkStart ram reply before number) 0) room ram reply room
+    (record { remembered = before; number = number; used = 0 })
+unfolding walkTo
+stands-none s trace ram reply room before number = record { memory = refl; answer = refl; text = refl; back = refl }
+
+pub stands-more :
+    (s : Settings) (trace : List ℕ) (w : Walk) (n : ℕ) {room ram reply out ram₁ reply₁ out₁ : List ℕ} {walked walked₁ : Walked} →
+    Stands (walkTo s trace w n) room ram reply out walked →
+    Leaves (walkRecord s (recordAt trace n) (walkStart ram reply (walked .remembered) (walked .number))) out (walked .used) ram₁ reply₁ out₁ walked₁ →
+    Stands (walkTo s trace w (n + 1)) room ram₁ reply₁ out₁ walked₁
+stands-more s trace w n a b = rw walk-more (record-stands _ _ _ _ _ _ _ _ _ _ _ _ a b)
+
+-- the next line's place
+pub stands-place :
+    (s : Settings) (trace : List ℕ) (w : Walk) (n : ℕ) {room ram reply out : List ℕ} {walked : Walked} →
+    Stands (walkTo s trace w n) room ram reply out walked →
+    walked .used ≤ length (w .text) + 72 * n
+stands-place s trace w n a = rw (a .back) (text-most s trace w n)

@@ -1,0 +1,91 @@
+-- `walk` meets its contract. The loop's invariant: the walk stands after `i` records.
+use Prim.Native.Nat.{_≤_, _+_, _-_, _*_, _/_}
+use native.Mathlib.Omega.{arith}
+use mathlib.Core.Path.{_≡_, refl}
+use lib.ListN.{length}
+use denote.Ref.{now}
+use borrow.Author.Needs.{needs}
+use Rattle.trace.specs.Walk.{walkTo, walkStart, walkAll}
+use Rattle.trace.proofs.Walks.{Stands, stands-none, stands-more, stands-place}
+use Rattle.trace.proofs.walk.walk.Statement.{statement}
+use Rattle.trace.proofs.walk.walk.Tie as tie
+
+abbrev Inv-loop : tie.InvT-loop
+Inv-loop ram₀ reply₀ out₀ s number trace records w₀ i₀ ram reply out w i =
+    (i ≤ records)
+    × (Stands (walkTo s trace (walkStart ram₀ reply₀ (w₀ .remembered) (w₀ .number)) i) out₀ ram reply out w
+    × ((length ram ≡ length ram₀) × ((length reply ≡ length reply₀) × (length out ≡ length out₀))))
+
+abbrev μ-loop : tie.MeasureT-loop
+μ-loop ram₀ reply₀ out₀ s number trace records w₀ i₀ ram reply out w i = records - i
+
+loop-holds : tie.Need-loop-holds Inv-loop μ-loop
+loop-holds c = (omega arith, (stands-none _ _ _ _ _ _ _, (refl, (refl, refl))))
+
+mul-at : tie.Need-mul-at Inv-loop μ-loop
+mul-at c = search needs
+
+add-walk-one : tie.Need-add-walk-one Inv-loop μ-loop
+add-walk-one c = search needs
+
+sub-walk-one : tie.Need-sub-walk-one Inv-loop μ-loop
+sub-walk-one c = search needs
+
+part-walk-one-start : tie.Need-part-walk-one-start Inv-loop μ-loop
+part-walk-one-start c = search needs
+
+part-walk-one-end : tie.Need-part-walk-one-end Inv-loop μ-loop
+part-walk-one-end c = search needs
+
+walk-one-requires : tie.Need-walk-one-requires Inv-loop μ-loop
+walk-one-requires c κs =
+    omega (arith, stands-place _ _ _ _ (c .before .before .before .before .before .loop .inv .1 .0))
+
+add-i : tie.Need-add-i Inv-loop μ-loop
+add-i c = search needs
+
+loop-less : tie.Need-loop-less Inv-loop μ-loop
+loop-less c = search needs
+
+loop-again : tie.Need-loop-again Inv-loop μ-loop
+loop-again c =
+    let l = c .before .before .before .before .before .before .before .before .before .before .before .before .loop in
+    let e : 80 * l .i + 80 - 80 * l .i ≡ 80 = omega arith in
+    (omega arith, (stands-more _ _ _ _ (l .inv .1 .0) (rw e at (c .before .before .before .before .before .before .walk-one .ensures)), (cc, (cc, cc))))
+
+same-length : tie.Need-same-length Inv-loop μ-loop
+same-length c = search needs
+
+same-length-2 : tie.Need-same-length-2 Inv-loop μ-loop
+same-length-2 c = search needs
+
+same-length-3 : tie.Need-same-length-3 Inv-loop μ-loop
+same-length-3 c = search needs
+
+returns : tie.Need-returns Inv-loop μ-loop
+unfolding walkAll
+returns c =
+    let e : c .before .loop .i ≡ length (now (c .before .before .before .before .before .before .args .trace)) / 80 = omega arith in
+    let t = rw e at (c .before .loop .inv .1 .0) in
+    (t .back, (t .memory, (t .answer, t .text)))
+
+pub walk-spec : {M : Type 1} → statement M
+walk-spec =
+    tie.close
+    (tie.spec
+    Inv-loop
+    μ-loop
+    loop-holds
+    mul-at
+    add-walk-one
+    sub-walk-one
+    part-walk-one-start
+    part-walk-one-end
+    walk-one-requires
+    add-i
+    loop-less
+    loop-again
+    same-length
+    same-length-2
+    same-length-3
+    returns)
