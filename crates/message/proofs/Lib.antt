@@ -10,3 +10,5 @@ pub mod Reach
 pub mod Carried
 pub mod Accepted
 pub mod FromBytes
+pub mod Refusals
+pub mod Edges

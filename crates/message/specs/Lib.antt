@@ -9,3 +9,5 @@ pub mod Answer
 pub mod Message
 pub mod Ready
 pub mod Run
+pub mod Tests
+pub mod Edges

@@ -1,0 +1,27 @@
+-- P1 to P12: one table, one statement.
+use mathlib.Core.Path.{_≡_, refl}
+use mathlib.Core.List.{map}
+use Rattle.words.specs.Command.{wordCount, isModeSubaddress}
+use Rattle.words.specs.Settings.{stackSizeListed, settingsRefused, isOwn, isBroadcast, isNotOurs}
+use Rattle.words.specs.Value.{lastsZero, keepsLayout}
+use Rattle.words.specs.Layout.{fill}
+use Rattle.words.specs.Refusal.{firstOf, inOrder, firstRefusal}
+use Rattle.cells.specs.Map.{ramRefused, stackPointerPlace, lookupTable, busyPlace, isBusyAt, illegalPlace, isIllegalAt}
+use Rattle.cells.specs.Kind.{cellNumber, kindOf}
+use Rattle.cells.specs.Window.{runFrom, aligned, placeOf, rollsOver, meets, meetsFixed}
+use Rattle.cells.specs.Cell.{controlPart, pickScheme, schemeOf, cellAt, windowOf, doubleFits, soundCell}
+use Rattle.cells.specs.Stack.{stackPointer, stackWindow, stackSound}
+use Rattle.message.specs.Fault.{expectedWords, faultsOf, faultsFor, anyFault}
+use Rattle.message.specs.Target.{cellFor, isIllegal, isBusy, targetOf}
+use Rattle.message.specs.Deed.{withheld, wordsStored, wordsSent, actWith, actOf, mayMove, stride, moves, motionWith, motionOf}
+use Rattle.message.specs.Report.{blockStatus, statusWord, reportOf, interruptWord}
+use Rattle.message.specs.Plan.{deedOf, entryOf, planOf}
+use Rattle.message.specs.Writes.{applyWrites, writesTo, pointerWrites, descriptorOf, entryWrites, deedWrites, stackWrites, writesOf}
+use Rattle.message.specs.Reply.{replyWrites, replyWords}
+use Rattle.message.specs.Answer.{cellUnsound, groundsFor, refusalFor, refusedWith, acceptedWith, rememberedFrom, acceptedOutcome, outcomeFor}
+use Rattle.message.specs.Message.{outcomeOfValue}
+use Rattle.message.specs.Edges.{runCase, cases, expected}
+
+pub edges : map runCase cases ≡ expected
+unfolding wordCount isModeSubaddress stackSizeListed settingsRefused isOwn isBroadcast isNotOurs lastsZero keepsLayout fill firstOf inOrder firstRefusal ramRefused stackPointerPlace lookupTable busyPlace isBusyAt illegalPlace isIllegalAt cellNumber kindOf runFrom aligned placeOf rollsOver meets meetsFixed controlPart pickScheme schemeOf cellAt windowOf doubleFits soundCell stackPointer stackWindow stackSound expectedWords faultsOf faultsFor anyFault cellFor isIllegal isBusy targetOf withheld wordsStored wordsSent actWith actOf mayMove stride moves motionWith motionOf blockStatus statusWord reportOf interruptWord deedOf entryOf planOf applyWrites writesTo pointerWrites descriptorOf entryWrites deedWrites stackWrites writesOf replyWrites replyWords cellUnsound groundsFor refusalFor refusedWith acceptedWith rememberedFrom acceptedOutcome outcomeFor outcomeOfValue runCase cases expected
+edges = refl
