@@ -23,8 +23,8 @@ use Rattle.message.specs.Run.{State, stepValue, run, effectOf, effects}
 use Rattle.message.proofs.Step.{stack-moves, entry-stands, block-stays}
 use Rattle.exchange.specs.Descriptors.{entriesOn, lastOf, stackWord}
 use Rattle.exchange.proofs.Numbers.{ListedSize, for-listed, Offset, on, on-less, on-farthest, on-other, further, next-offset, last-on}
-use Rattle.exchange.proofs.Accept.{Good, Formed, done, sure, good-next}
-use Rattle.exchange.proofs.Alike.{AllFormed}
+use Rattle.exchange.proofs.Taken.{Good, Formed, done, sure, good-next}
+use Rattle.exchange.proofs.Same.{AllFormed}
 
 -- the descriptors of a run, in order
 abbrev pub descriptors : Settings → List Record → State → List (List ℕ)
@@ -66,7 +66,7 @@ module _
     next-window =
         let p = stackPointer (x .ram) s in
         let m = s .«stack_size» in
-        let q : 0 < m = stack-nonempty (x .ram) s (sure s v x g f .agreed) (sure s v x g f .stack) in
+        let q : 0 < m = stack-nonempty (x .ram) s (sure s v x g f .listed) (sure s v x g f .stack) in
         rw (done s v x g f .ram, stack-moves (x .ram) s v (sure s v x g f))
         (aligned-moved p m 4 q ∙ ap (λ (b : Window). record { start = b .start; size = b .size; offset = (b .offset + 4) % b .size }) w)
 

@@ -1,9 +1,11 @@
+pub mod Cases
 pub mod Numbers
-pub mod Accept
-pub mod Alike
-pub mod Apart
+pub mod Taken
+pub mod Same
+pub mod Separate
 pub mod Swap
 pub mod Places
 pub mod Entries
 pub mod Runs
 pub mod Theorem
+pub mod NotEmpty

@@ -18,9 +18,9 @@ use Rattle.message.proofs.Kept.{Kept}
 use Rattle.exchange.specs.Order.{swapAt, exchangeAll}
 use Rattle.exchange.specs.Condition.{mayExchange, allowedAt, allowedAll}
 use Rattle.exchange.specs.Kept.{calm}
-use Rattle.exchange.proofs.Accept.{Good, done, sure, good-next}
-use Rattle.exchange.proofs.Alike.{Alike, alike-self, alike-both, alike-block, AllFormed, step-keeps, same-back, run-same}
-use Rattle.exchange.proofs.Apart.{separate, separate-swap}
+use Rattle.exchange.proofs.Taken.{Good, done, sure, good-next}
+use Rattle.exchange.proofs.Same.{Alike, alike-self, alike-both, alike-block, AllFormed, step-keeps, same-back, run-same}
+use Rattle.exchange.proofs.Separate.{separate, separate-swap}
 use Rattle.exchange.proofs.Swap.{calm-stays, orders-alike}
 
 -- cells and windows stay, so what may be exchanged at the start may be exchanged later, and the other way round

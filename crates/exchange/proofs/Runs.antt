@@ -11,8 +11,8 @@ use Rattle.message.specs.Plan.{planOf}
 use Rattle.message.specs.Run.{State, stepValue, run, Effect, effectOf, effects}
 use Rattle.exchange.specs.Kept.{lastWord, overFront, repliedAll, rememberedLast}
 use Rattle.exchange.specs.Exchanged.{allDone}
-use Rattle.exchange.proofs.Accept.{Good, done, good-next}
-use Rattle.exchange.proofs.Alike.{AllFormed}
+use Rattle.exchange.proofs.Taken.{Good, done, good-next}
+use Rattle.exchange.proofs.Same.{AllFormed}
 
 pub run-done : (s : Settings) (vs : List Record) (x : State) → Good s x → AllFormed s vs → allDone (effects s vs x)
 unfolding effects allDone acceptedWith

@@ -24,9 +24,9 @@ use Rattle.message.proofs.Sure.{Sure}
 use Rattle.message.proofs.Step.{afterMessage, deedFor, after-length, beyond-stack, stack-moves}
 use Rattle.message.proofs.Kept.{message-keeps}
 use Rattle.exchange.specs.Kept.{withoutWrap, calm}
-use Rattle.exchange.proofs.Accept.{Good, Formed, done, sure, good-next}
-use Rattle.exchange.proofs.Alike.{Alike}
-use Rattle.exchange.proofs.Apart.{Separate, separate-swap, aim-stays, reads-stay, one-avoids}
+use Rattle.exchange.proofs.Taken.{Good, Formed, done, sure, good-next}
+use Rattle.exchange.proofs.Same.{Alike}
+use Rattle.exchange.proofs.Separate.{Separate, separate-swap, aim-stays, reads-stay, one-avoids}
 
 bit-small : (b : Bool) → bitOf b ≤ 1
 bit-small true = omega arith

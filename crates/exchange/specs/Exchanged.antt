@@ -1,10 +1,10 @@
 -- Demand 3, whole: what it asks, and what exchanging neighbours then keeps and moves.
 use Prim.Native.Nat.{ℕ, _+_, _<_}
 use mathlib.Core.Path.{_≡_}
-use mathlib.Core.Bool.{Bool, true, false, _&&_}
+use mathlib.Core.Bool.{Bool, true, false, not, _&&_}
 use mathlib.Core.List.{List, [], _∷_, map}
 use lib.ListN.{length, getD}
-use lib.Dec.{ltb, leb}
+use lib.Dec.{ltb, leb, eqb}
 use Rattle.words.specs.declared.value.Record.{Record}
 use Rattle.words.specs.declared.settings.Settings.{Settings}
 use Rattle.cells.specs.declared.window.Window.{Window}
@@ -14,20 +14,21 @@ use Rattle.message.specs.Answer.{replyRefused}
 use Rattle.message.specs.Run.{State, run, Effect, effects}
 use Rattle.exchange.specs.Order.{exchangeAll}
 use Rattle.exchange.specs.Condition.{allWellFormed, allowedAll}
-use Rattle.exchange.specs.Descriptors.{stackWord}
-use Rattle.exchange.specs.Kept.{calm, repliedAll, rememberedLast}
+use Rattle.exchange.specs.Kept.{calm}
+use Rattle.exchange.specs.After.{keptAfter, stackAfter, rememberedAfter, repliedAfter}
 
--- what is asked of settings, starting state, messages and places of exchange; `run` is "with fixed settings and no host
--- write between"
-pub record Asked (s : Settings) (x : State) (vs : List Record) (places : List ℕ) : Type 0 where
-  -- "Start where the whole-area check passes, with 33 reply words."
-  pub area : checkArea (x .ram) s .number ≡ 0
-  pub room : replyRefused (length (x .reply)) ≡ false
-  -- "Take any non-empty list of well-formed data messages for this terminal"
-  pub some : 0 < length vs
-  pub formed : allWellFormed s vs ≡ true
-  -- "Exchange neighbours as often as you like, if they use different cells whose windows don't meet, or that both only send."
-  pub allowed : allowedAll (x .ram) s places vs ≡ true
+-- "Start where the whole-area check passes, with 33 reply words."
+unfoldable pub startsWell : Settings → State → Bool
+startsWell s x = eqb (checkArea (x .ram) s .number) 0 && not (replyRefused (length (x .reply)))
+
+-- "Take any non-empty list of well-formed data messages for this terminal, with fixed settings and no host write between.":
+-- `run` takes them so
+unfoldable pub takesWell : Settings → List Record → Bool
+takesWell s vs = ltb 0 (length vs) && allWellFormed s vs
+
+-- "Exchange neighbours as often as you like, if they use different cells whose windows don't meet, or that both only send."
+unfoldable pub asked : Settings → State → List Record → List ℕ → Bool
+asked s x vs places = (startsWell s x && takesWell s vs) && allowedAll (x .ram) s places vs
 
 -- address a lies in the window
 abbrev pub isInside : Window → ℕ → Bool
@@ -51,22 +52,19 @@ pub record Exchanged (s : Settings) (x : State) (vs : List Record) (places : Lis
       getD (run s (exchangeAll places vs) x .ram) a 0 ≡ getD (run s vs x .ram) a 0
   -- ", and so does the stack pointer."
   pub pointer : stackPointer (run s (exchangeAll places vs) x .ram) s ≡ stackPointer (run s vs x .ram) s
-  -- "Each message keeps its reply, descriptor and interrupt word, except the stack-rollover bit.": what each message shows
-  -- is followed through the same exchanges
-  pub kept : map calm (effects s (exchangeAll places vs) x) ≡ exchangeAll places (map calm (effects s vs x))
+  -- "Each message keeps its reply, descriptor and interrupt word, except the stack-rollover bit."
+  pub kept : map calm (effects s (exchangeAll places vs) x) ≡ keptAfter s x vs places
   -- "The stack holds the last descriptors that fit, in the new order", and the rest of its block is as it was
   pub stack :
       (j : ℕ) →
       j < stackWindow (x .ram) s .size →
-      getD (run s (exchangeAll places vs) x .ram) (stackWindow (x .ram) s .start + j) 0
-      ≡ stackWord (x .ram) (stackWindow (x .ram) s) (map (λ e. e .descriptor) (effects s (exchangeAll places vs) x)) j
+      getD (run s (exchangeAll places vs) x .ram) (stackWindow (x .ram) s .start + j) 0 ≡ stackAfter s x vs places j
   -- "the remembered command and status are the new last message's."
-  pub remembered :
-      run s (exchangeAll places vs) x .remembered
-      ≡ rememberedLast (exchangeAll places vs) (effects s (exchangeAll places vs) x)
-  -- the reply buffer: what each message sends goes over its front, in the new order
-  pub reply : run s (exchangeAll places vs) x .reply ≡ repliedAll (effects s (exchangeAll places vs) x) (x .reply)
+  pub remembered : run s (exchangeAll places vs) x .remembered ≡ rememberedAfter s x vs places
+  -- what the lent reply buffer holds at the end
+  pub reply : run s (exchangeAll places vs) x .reply ≡ repliedAfter s x vs places
 
 -- demand 3; `exchange` of proofs/Theorem.antt proves it
 abbrev pub Demand : Type 0
-Demand = (s : Settings) (x : State) (vs : List Record) (places : List ℕ) → Asked s x vs places → Exchanged s x vs places
+Demand =
+    (s : Settings) (x : State) (vs : List Record) (places : List ℕ) → asked s x vs places ≡ true → Exchanged s x vs places

@@ -31,7 +31,7 @@ use Rattle.message.proofs.Footprint.{Outside, same-at}
 use Rattle.message.proofs.Step.{deedFor, after-length, target-sized, stack-moves, beyond-stack}
 use Rattle.message.proofs.Kept.{Kept, cell-words, message-keeps}
 use Rattle.exchange.specs.Condition.{wellFormed, allWellFormed}
-use Rattle.exchange.proofs.Accept.{Good, Formed, formed, done, sure, good-next}
+use Rattle.exchange.proofs.Taken.{Good, Formed, formed, done, sure, good-next}
 
 pub record Alike (block : Window) (m n : List ℕ) : Type 0 where
   pub long : length m ≡ length n

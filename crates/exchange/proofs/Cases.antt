@@ -1,0 +1,159 @@
+-- The cases computed, in one statement. In the first two the exchange is allowed: descriptors change places on the stack, and in
+-- the second the stack-rollover bit passes to the other message; all that demand 3 says holds. In each of the others one
+-- condition fails, and with it what demand 3 says: other words are sent, or a message is refused.
+use Prim.Native.Nat.{ℕ}
+use mathlib.Core.Path.{_≡_, refl}
+use mathlib.Core.Bool.{true, false}
+use mathlib.Core.List.{List, [], _∷_, _++_, map}
+use Rattle.words.specs.Command.{wordCount, isModeSubaddress}
+use Rattle.words.specs.Settings.{stackSizeListed, settingsRefused, isOwn, isBroadcast, isNotOurs}
+use Rattle.words.specs.Value.{lastsZero, keepsLayout}
+use Rattle.words.specs.Refusal.{firstOf, inOrder, firstRefusal}
+use Rattle.cells.specs.Map.{ramRefused, stackPointerPlace, lookupTable, busyPlace, isBusyAt, illegalPlace, isIllegalAt}
+use Rattle.cells.specs.Window.{runFrom, aligned, placeOf, rollsOver, meets, meetsFixed}
+use Rattle.cells.specs.Kind.{cellNumber, kindNumbered, kindOf}
+use Rattle.cells.specs.Cell.{controlPart, pickScheme, schemeOf, cellAt, windowOf, doubleFits, soundCell}
+use Rattle.cells.specs.Stack.{stackPointer, stackWindow, stackSound}
+use Rattle.cells.specs.Area.{isRead, cellNumbered, isUnsound, orElse, lowest, lowestUnsound, areaGrounds, areaRefusal, checkArea}
+use Rattle.message.specs.Fault.{expectedWords, faultsOf, faultsFor, anyFault}
+use Rattle.message.specs.Target.{cellFor, isIllegal, isBusy, targetOf}
+use Rattle.message.specs.Deed.{withheld, wordsStored, wordsSent, actWith, actOf, mayMove, stride, moves, motionWith, motionOf}
+use Rattle.message.specs.Report.{blockStatus, statusWord, reportOf, interruptWord}
+use Rattle.message.specs.Plan.{deedOf, entryOf, planOf}
+use Rattle.message.specs.Writes.{applyWrites, writesTo, pointerWrites, descriptorOf, entryWrites, deedWrites, stackWrites, writesOf}
+use Rattle.message.specs.Reply.{replyWrites, replyWords}
+use Rattle.message.specs.Answer.{cellUnsound, groundsFor, refusalFor, refusedWith, acceptedWith, rememberedFrom, acceptedOutcome, outcomeFor, ramFor, replyFor}
+use Rattle.message.specs.Message.{outcomeOfValue, ramAfterValue, replyAfterValue}
+use Rattle.message.specs.Run.{stepValue, run, effectOf, effects}
+use Rattle.exchange.specs.Order.{swapAt, exchangeAll}
+use Rattle.exchange.specs.Condition.{wellFormed, allWellFormed, mayExchange, allowedAt, allowedAll}
+use Rattle.exchange.specs.Descriptors.{entriesOn, lastOf, stackWord}
+use Rattle.exchange.specs.Kept.{withoutWrap, calm, rememberedLast}
+use Rattle.exchange.specs.After.{keptAfter, stackAfter, rememberedAfter}
+use Rattle.exchange.specs.Exchanged.{startsWell, takesWell, asked}
+use Rattle.exchange.specs.Cases.{bench, plainRam, startOf, Order, orderOf, Said, saidOf, Seen, seen, cases}
+
+abbrev pub order : List ℕ → List ℕ → List (List ℕ) → List ℕ → ℕ → ℕ → Order
+order words numbers sends interrupts command status =
+    record {
+      words = words;
+      numbers = numbers;
+      sends = sends;
+      interrupts = interrupts;
+      remembered = record { command = command; status = status };
+    }
+
+-- the first eight words of the block and the last four; what each sends; interrupt words; what is remembered
+abbrev pub says : List ℕ → List ℕ → List (List ℕ) → List ℕ → ℕ → ℕ → Said
+says first last sends interrupts command status =
+    record {
+      stack = first ++ last;
+      sends = sends;
+      interrupts = interrupts;
+      remembered = record { command = command; status = status };
+    }
+
+abbrev pub none : List ℕ
+none = 0 ∷ 0 ∷ 0 ∷ 0 ∷ []
+
+abbrev pub expected : List Seen
+expected =
+    -- twoReceives
+    record {
+      asks = true;
+      old =
+          order (0x8080 ∷ 7 ∷ 0x4FE ∷ 0x2864 ∷ 0x9420 ∷ 8 ∷ 0x500 ∷ 0x2883 ∷ 8 ∷ 0x482 ∷ 1 ∷ 3 ∷ 5 ∷ []) (0 ∷ 0 ∷ [])
+          ((0x2800 ∷ []) ∷ [] ∷ []) (3 ∷ 0x13 ∷ []) 0x2883 0x2C00;
+      new =
+          order (0x9420 ∷ 8 ∷ 0x500 ∷ 0x2883 ∷ 0x8080 ∷ 7 ∷ 0x4FE ∷ 0x2864 ∷ 8 ∷ 0x482 ∷ 1 ∷ 3 ∷ 5 ∷ []) (0 ∷ 0 ∷ [])
+          ([] ∷ (0x2800 ∷ []) ∷ []) (0x13 ∷ 3 ∷ []) 0x2864 0x2800;
+      said =
+          says (0x9420 ∷ 8 ∷ 0x500 ∷ 0x2883 ∷ 0x8080 ∷ 7 ∷ 0x4FE ∷ 0x2864 ∷ []) none
+          ([] ∷ (0x2800 ∷ []) ∷ []) (0x13 ∷ 3 ∷ []) 0x2864 0x2800;
+    }
+    -- twoTransmits
+    ∷ record {
+      asks = true;
+      old =
+          order (0x8000 ∷ 7 ∷ 0x480 ∷ 0x2C62 ∷ 0x8000 ∷ 8 ∷ 0x481 ∷ 0x2C82 ∷ 4 ∷ 0x482 ∷ []) (0 ∷ 0 ∷ [])
+          ((0x2800 ∷ 11 ∷ 12 ∷ []) ∷ (0x2800 ∷ 12 ∷ 13 ∷ []) ∷ []) (0x43 ∷ 3 ∷ []) 0x2C82 0x2800;
+      new =
+          order (0x8000 ∷ 8 ∷ 0x481 ∷ 0x2C82 ∷ 0x8000 ∷ 7 ∷ 0x480 ∷ 0x2C62 ∷ 4 ∷ 0x482 ∷ []) (0 ∷ 0 ∷ [])
+          ((0x2800 ∷ 12 ∷ 13 ∷ []) ∷ (0x2800 ∷ 11 ∷ 12 ∷ []) ∷ []) (0x43 ∷ 3 ∷ []) 0x2C62 0x2800;
+      said =
+          says (0x8000 ∷ 7 ∷ 0x480 ∷ 0x2C62 ∷ none) (0x8000 ∷ 8 ∷ 0x481 ∷ 0x2C82 ∷ [])
+          ((0x2800 ∷ 12 ∷ 13 ∷ []) ∷ (0x2800 ∷ 11 ∷ 12 ∷ []) ∷ []) (3 ∷ 3 ∷ []) 0x2C62 0x2800;
+    }
+    -- oneCell: the words sent are not those that the messages sent before
+    ∷ record {
+      asks = false;
+      old =
+          order (0x483 ∷ []) (0 ∷ 0 ∷ []) ((0x2800 ∷ 11 ∷ []) ∷ (0x2800 ∷ 12 ∷ 13 ∷ []) ∷ []) (3 ∷ 3 ∷ []) 0x2C62 0x2800;
+      new =
+          order (0x483 ∷ []) (0 ∷ 0 ∷ []) ((0x2800 ∷ 11 ∷ 12 ∷ []) ∷ (0x2800 ∷ 13 ∷ []) ∷ []) (3 ∷ 3 ∷ []) 0x2C61 0x2800;
+      said =
+          says (0x8000 ∷ 8 ∷ 0x480 ∷ 0x2C62 ∷ 0x8000 ∷ 7 ∷ 0x482 ∷ 0x2C61 ∷ []) none
+          ((0x2800 ∷ 12 ∷ 13 ∷ []) ∷ (0x2800 ∷ 11 ∷ []) ∷ []) (3 ∷ 3 ∷ []) 0x2C61 0x2800;
+    }
+    -- meeting: the word sent is not the one that was sent before
+    ∷ record {
+      asks = false;
+      old = order (5 ∷ []) (0 ∷ 0 ∷ []) ((0x2800 ∷ []) ∷ (0x2800 ∷ 5 ∷ []) ∷ []) (3 ∷ 3 ∷ []) 0x2C81 0x2800;
+      new = order (5 ∷ []) (0 ∷ 0 ∷ []) ((0x2800 ∷ 0 ∷ []) ∷ (0x2800 ∷ []) ∷ []) (3 ∷ 3 ∷ []) 0x2861 0x2800;
+      said =
+          says (0x8000 ∷ 8 ∷ 0x480 ∷ 0x2C81 ∷ 0x8000 ∷ 7 ∷ 0x480 ∷ 0x2861 ∷ []) none
+          ((0x2800 ∷ 5 ∷ []) ∷ (0x2800 ∷ []) ∷ []) (3 ∷ 3 ∷ []) 0x2861 0x2800;
+    }
+    -- later
+    ∷ record {
+      asks = false;
+      old =
+          order (0x483 ∷ []) (0 ∷ 0 ∷ 0 ∷ [])
+          ((0x2800 ∷ 11 ∷ []) ∷ (0x2800 ∷ 0 ∷ []) ∷ (0x2800 ∷ 12 ∷ 13 ∷ []) ∷ []) (3 ∷ 3 ∷ 3 ∷ []) 0x2C62 0x2800;
+      new =
+          order (0x483 ∷ []) (0 ∷ 0 ∷ 0 ∷ [])
+          ((0x2800 ∷ 0 ∷ []) ∷ (0x2800 ∷ 11 ∷ 12 ∷ []) ∷ (0x2800 ∷ 13 ∷ []) ∷ []) (3 ∷ 3 ∷ 3 ∷ []) 0x2C61 0x2800;
+      said =
+          says (0x8000 ∷ 8 ∷ 0x400 ∷ 0x2C81 ∷ 0x8000 ∷ 9 ∷ 0x480 ∷ 0x2C62 ∷ []) none
+          ((0x2800 ∷ 0 ∷ []) ∷ (0x2800 ∷ 12 ∷ 13 ∷ []) ∷ (0x2800 ∷ 11 ∷ []) ∷ []) (3 ∷ 3 ∷ 3 ∷ []) 0x2C61 0x2800;
+    }
+    -- unsound: 9
+    ∷ record {
+      asks = false;
+      old = order (4 ∷ 5 ∷ 0 ∷ []) (0 ∷ 9 ∷ []) ((0x2800 ∷ []) ∷ [] ∷ []) (3 ∷ 0 ∷ []) 0x2861 0x2800;
+      new = order (4 ∷ 5 ∷ 0 ∷ []) (9 ∷ 0 ∷ []) ([] ∷ (0x2800 ∷ []) ∷ []) (0 ∷ 3 ∷ []) 0x2861 0x2800;
+      said = says (none ++ (0x8000 ∷ 7 ∷ 0x400 ∷ 0x2861 ∷ [])) none ([] ∷ (0x2800 ∷ []) ∷ []) (0 ∷ 3 ∷ []) 0x2861 0x2800;
+    }
+    -- narrow: 2
+    ∷ record {
+      asks = false;
+      old = order (0 ∷ []) (2 ∷ 2 ∷ []) ([] ∷ [] ∷ []) (0 ∷ 0 ∷ []) 0 0;
+      new = order (0 ∷ []) (2 ∷ 2 ∷ []) ([] ∷ [] ∷ []) (0 ∷ 0 ∷ []) 0 0;
+      said = says (none ++ none) none ([] ∷ [] ∷ []) (0 ∷ 0 ∷ []) 0x2861 0;
+    }
+    -- modeCommand: 7
+    ∷ record {
+      asks = false;
+      old = order (4 ∷ []) (0 ∷ 7 ∷ []) ((0x2800 ∷ []) ∷ [] ∷ []) (3 ∷ 0 ∷ []) 0x2861 0x2800;
+      new = order (4 ∷ []) (7 ∷ 0 ∷ []) ([] ∷ (0x2800 ∷ []) ∷ []) (0 ∷ 3 ∷ []) 0x2861 0x2800;
+      said = says (none ++ (0x8000 ∷ 7 ∷ 0x400 ∷ 0x2861 ∷ [])) none ([] ∷ (0x2800 ∷ []) ∷ []) (0 ∷ 3 ∷ []) 0x2861 0x2800;
+    }
+    -- elsewhere: 6
+    ∷ record {
+      asks = false;
+      old = order (4 ∷ []) (0 ∷ 6 ∷ []) ((0x2800 ∷ []) ∷ [] ∷ []) (3 ∷ 0 ∷ []) 0x2861 0x2800;
+      new = order (4 ∷ []) (6 ∷ 0 ∷ []) ([] ∷ (0x2800 ∷ []) ∷ []) (0 ∷ 3 ∷ []) 0x2861 0x2800;
+      said = says (none ++ (0x8000 ∷ 7 ∷ 0x400 ∷ 0x2861 ∷ [])) none ([] ∷ (0x2800 ∷ []) ∷ []) (0 ∷ 3 ∷ []) 0x2861 0x2800;
+    }
+    -- broken: 5
+    ∷ record {
+      asks = false;
+      old = order (4 ∷ []) (0 ∷ 5 ∷ []) ((0x2800 ∷ []) ∷ [] ∷ []) (3 ∷ 0 ∷ []) 0x2861 0x2800;
+      new = order (4 ∷ []) (5 ∷ 0 ∷ []) ([] ∷ (0x2800 ∷ []) ∷ []) (0 ∷ 3 ∷ []) 0x2861 0x2800;
+      said = says (none ++ (0x8000 ∷ 7 ∷ 0x400 ∷ 0x2861 ∷ [])) none ([] ∷ (0x2800 ∷ []) ∷ []) (0 ∷ 3 ∷ []) 0x2861 0x2800;
+    }
+    ∷ []
+
+pub computed : map seen cases ≡ expected
+unfolding wordCount isModeSubaddress stackSizeListed settingsRefused isOwn isBroadcast isNotOurs lastsZero keepsLayout firstOf inOrder firstRefusal ramRefused stackPointerPlace lookupTable busyPlace isBusyAt illegalPlace isIllegalAt runFrom aligned placeOf rollsOver meets meetsFixed cellNumber kindNumbered kindOf controlPart pickScheme schemeOf cellAt windowOf doubleFits soundCell stackPointer stackWindow stackSound isRead cellNumbered isUnsound orElse lowest lowestUnsound areaGrounds areaRefusal checkArea expectedWords faultsOf faultsFor anyFault cellFor isIllegal isBusy targetOf withheld wordsStored wordsSent actWith actOf mayMove stride moves motionWith motionOf blockStatus statusWord reportOf interruptWord deedOf entryOf planOf applyWrites writesTo pointerWrites descriptorOf entryWrites deedWrites stackWrites writesOf replyWrites replyWords cellUnsound groundsFor refusalFor refusedWith acceptedWith rememberedFrom acceptedOutcome outcomeFor ramFor replyFor outcomeOfValue ramAfterValue replyAfterValue stepValue run effectOf effects swapAt exchangeAll wellFormed allWellFormed mayExchange allowedAt allowedAll withoutWrap calm rememberedLast entriesOn lastOf stackWord keptAfter stackAfter rememberedAfter startsWell takesWell asked bench plainRam startOf orderOf saidOf seen
+computed = refl
