@@ -1,5 +1,6 @@
 //! The remote terminal, one subject per file, the lower ones first.
 
+pub mod boundary;
 pub mod cells;
 pub mod message;
 pub mod planted;

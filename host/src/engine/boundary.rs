@@ -4,15 +4,6 @@
 //! anything else of the same call. Borrowed slices keep to that by themselves,
 //! so these functions are safe to call with slices of any contents and length.
 
-/// Words of the settings: see the header for each.
-pub const SETTINGS_WORDS: usize = 11;
-/// Words of what is remembered.
-pub const REMEMBERED_WORDS: usize = 2;
-/// Words of a record value.
-pub const VALUE_WORDS: usize = 36;
-/// Words of an answer.
-pub const ANSWER_WORDS: usize = 9;
-
 mod linked {
     extern "C" {
         pub fn solkverva_check_area(

@@ -5,12 +5,10 @@ use bench_side::compare::coverage::Coverage;
 use bench_side::compare::shrink::shrink;
 use bench_side::compare::sides::Proved;
 use bench_side::compare::{compare, Plain};
-use bench_side::engine::{answer_words, boundary, settings_words, value_words};
+use bench_side::engine::boundary as proved;
 use bench_side::random::Random;
-use bench_side::terminal::{
-    check_area, message_from_bytes, message_from_record, read_record, write_record, Planted,
-    Record, Remembered, Settings,
-};
+use bench_side::terminal::boundary::{self as plain, settings_words, value_words};
+use bench_side::terminal::{write_record, Planted, Record, Settings};
 
 /// The example of the scope document: RT 5, a circle of 128 words.
 fn example_ram() -> Vec<u16> {
@@ -38,7 +36,7 @@ fn the_example_through_the_boundary() {
     let mut reply = [0xEEEE; 33];
     let mut remembered = [0; 2];
     let mut answer = [0xEEEE; 9];
-    boundary::message(
+    proved::message(
         &mut ram,
         &mut reply,
         &settings_words(&Settings::TRACE),
@@ -91,55 +89,13 @@ fn any_length<T: Copy>(random: &mut Random, words: &[T], more: T) -> Vec<T> {
     slice
 }
 
-fn word_at(words: &[u16], place: usize) -> u16 {
-    words.get(place).copied().unwrap_or(0)
-}
-
-/// What a slice of settings words stands for: missing words are 0.
-fn settings_in(words: &[u16]) -> Settings {
-    let yes = |place| word_at(words, place) != 0;
-    Settings {
-        address: word_at(words, 0),
-        area_b: yes(1),
-        stack_size: word_at(words, 2),
-        overwrite_invalid: yes(3),
-        separate_broadcast: yes(4),
-        illegal_receive_disable: yes(5),
-        busy_receive_disable: yes(6),
-        busy_always: yes(7),
-        service_request: yes(8),
-        subsystem_flag: yes(9),
-        terminal_flag: yes(10),
-    }
-}
-
-/// What a slice of value words stands for.
-fn record_in(words: &[u16]) -> Record {
-    let mut record = Record {
-        command: word_at(words, 0),
-        tag: word_at(words, 1),
-        flags: word_at(words, 2).min(255),
-        count: word_at(words, 3).min(255),
-        ..Record::default()
-    };
-    for (place, word) in record.words.iter_mut().enumerate() {
-        *word = word_at(words, 4 + place);
-    }
-    record
-}
-
-/// Puts words at the front of a slice, as far as it goes.
-fn put<T: Copy>(slice: &mut [T], words: &[T]) {
-    for (place, word) in slice.iter_mut().zip(words) {
-        *place = *word;
-    }
-}
-
-/// Settings words, now and then in other words for yes.
+/// Settings words, of which yes may be any but 0.
 fn random_settings(random: &mut Random) -> Vec<u16> {
     let mut words = settings_words(&random.settings());
-    for yes in words[3..].iter_mut().filter(|yes| **yes != 0) {
-        *yes = random.pick(&[1, 1, 2, 0x0100, 0xFFFF]);
+    for place in (1..2).chain(3..words.len()) {
+        if words[place] != 0 {
+            words[place] = random.pick(&[1, 1, 2, 0x0100, 0xFFFF]);
+        }
     }
     any_length(random, &words, 0xEEEE)
 }
@@ -149,50 +105,22 @@ fn slices_of_any_length_for_a_message() {
     let mut random = Random::new(1);
     for _ in 0..20_000 {
         let settings = random_settings(&mut random);
-        let record = random.record(settings_in(&settings).address);
-        let mut ram = example_ram();
-        let mut reply = vec![0xEEEE; 33];
-        let mut remembered = any_length(&mut random, &[0x1234, 0x5678], 0xEEEE);
-        let mut answer = any_length(&mut random, &[0xEEEE; 9], 0xEEEE);
-        let mut expected = (
-            ram.clone(),
-            reply.clone(),
-            remembered.clone(),
-            answer.clone(),
-        );
-        let before = Remembered {
-            command: word_at(&remembered, 0),
-            status: word_at(&remembered, 1),
-        };
-        let (plain_ram, plain_reply) = (&mut expected.0, &mut expected.1);
-        let plain_settings = settings_in(&settings);
-        let (plain_answer, after) = if random.chance(2) {
-            let bytes = any_length(&mut random, &write_record(&record).unwrap(), 0);
-            boundary::message(
-                &mut ram,
-                &mut reply,
-                &settings,
-                &mut remembered,
-                &bytes,
-                &mut answer,
-            );
-            message_from_bytes(plain_ram, plain_reply, &plain_settings, before, &bytes)
-        } else {
-            let value = any_length(&mut random, &value_words(&record), 0xEEEE);
-            boundary::message_value(
-                &mut ram,
-                &mut reply,
-                &settings,
-                &mut remembered,
-                &value,
-                &mut answer,
-            );
-            let record = record_in(&value);
-            message_from_record(plain_ram, plain_reply, &plain_settings, before, &record)
-        };
-        put(&mut expected.2, &[after.command, after.status]);
-        put(&mut expected.3, &answer_words(&plain_answer));
-        assert_eq!((ram, reply, remembered, answer), expected);
+        let address = settings.first().copied().unwrap_or(0);
+        let record = random.record(address);
+        let bytes = any_length(&mut random, &write_record(&record).unwrap(), 0);
+        let value = any_length(&mut random, &value_words(&record), 0xEEEE);
+        let remembered = any_length(&mut random, &[0x1234, 0x5678], 0xEEEE);
+        let answer = any_length(&mut random, &[0xEEEE; 9], 0xEEEE);
+
+        let mut left = (example_ram(), [0xEEEE; 33], remembered, answer);
+        let mut right = left.clone();
+        let (ram, reply, remembered, answer) = &mut left;
+        plain::message(ram, reply, &settings, remembered, &bytes, answer);
+        plain::message_value(ram, reply, &settings, remembered, &value, answer);
+        let (ram, reply, remembered, answer) = &mut right;
+        proved::message(ram, reply, &settings, remembered, &bytes, answer);
+        proved::message_value(ram, reply, &settings, remembered, &value, answer);
+        assert_eq!(left, right);
     }
 }
 
@@ -202,28 +130,28 @@ fn slices_of_any_length_for_the_rest() {
     for _ in 0..5_000 {
         let settings = random_settings(&mut random);
         let ram = example_ram();
-        let (number, cell) = check_area(&ram, &settings_in(&settings));
-        let expected = u32::from(number) << 16 | u32::from(cell);
-        assert_eq!(boundary::check_area(&ram, &settings), expected);
+        assert_eq!(
+            plain::check_area(&ram, &settings),
+            proved::check_area(&ram, &settings)
+        );
 
         let record = random.record(5);
         let bytes = any_length(&mut random, &write_record(&record).unwrap(), 0);
-        let mut value = any_length(&mut random, &[0xEEEE; 36], 0xEEEE);
-        let mut expected = value.clone();
-        let read = read_record(&bytes);
-        put(&mut expected, &value_words(&read.unwrap_or_default()));
-        assert_eq!(boundary::read(&bytes, &mut value), read.err().unwrap_or(0));
-        assert_eq!(value, expected);
+        let mut left = any_length(&mut random, &[0xEEEE; 36], 0xEEEE);
+        let mut right = left.clone();
+        assert_eq!(
+            plain::read(&bytes, &mut left),
+            proved::read(&bytes, &mut right)
+        );
+        assert_eq!(left, right);
 
         let value = any_length(&mut random, &value_words(&record), 0xEEEE);
-        let mut bytes = any_length(&mut random, &[0xEE; 80], 0xEE);
-        let mut expected = bytes.clone();
-        let written = write_record(&record_in(&value));
-        put(&mut expected, &written.unwrap_or([0; 80]));
+        let mut left = any_length(&mut random, &[0xEE; 80], 0xEE);
+        let mut right = left.clone();
         assert_eq!(
-            boundary::write(&value, &mut bytes),
-            written.err().unwrap_or(0)
+            plain::write(&value, &mut left),
+            proved::write(&value, &mut right)
         );
-        assert_eq!(bytes, expected);
+        assert_eq!(left, right);
     }
 }

@@ -1,0 +1,193 @@
+//! This package's terminal over plain slices, as `include/solkverva.h` has it
+//! for the proved one: the same words in, the same words out. So the two can
+//! be asked in the same way, and timed on equal terms.
+//!
+//! A slice may have any length: missing words are read as 0, and words for
+//! which there is no room are dropped.
+
+use super::records::{RECORD_BYTES, RECORD_WORDS};
+use super::{Answer, Record, Remembered, Settings};
+
+/// Words of the settings: see the header for each.
+pub const SETTINGS_WORDS: usize = 11;
+/// Words of what is remembered.
+pub const REMEMBERED_WORDS: usize = 2;
+/// Words of a record value.
+pub const VALUE_WORDS: usize = HEAD_WORDS + RECORD_WORDS;
+/// Words of an answer.
+pub const ANSWER_WORDS: usize = 9;
+
+/// Words of a value before its data words.
+const HEAD_WORDS: usize = 4;
+
+/// The number in the upper 16 bits, the lowest unsound cell in the lower.
+#[inline(never)]
+pub fn check_area(ram: &[u16], settings: &[u16]) -> u32 {
+    let (number, cell) = super::check_area(ram, &settings_of(settings));
+    u32::from(number) << 16 | u32::from(cell)
+}
+
+/// One message from the bytes of a record.
+#[inline(never)]
+pub fn message(
+    ram: &mut [u16],
+    reply: &mut [u16],
+    settings: &[u16],
+    remembered: &mut [u16],
+    bytes: &[u8],
+    answer: &mut [u16],
+) {
+    let settings = settings_of(settings);
+    let before = remembered_of(remembered);
+    let outcome = super::message_from_bytes(ram, reply, &settings, before, bytes);
+    put_outcome(outcome, remembered, answer);
+}
+
+/// One message from the words of a record value.
+#[inline(never)]
+pub fn message_value(
+    ram: &mut [u16],
+    reply: &mut [u16],
+    settings: &[u16],
+    remembered: &mut [u16],
+    value: &[u16],
+    answer: &mut [u16],
+) {
+    let settings = settings_of(settings);
+    let before = remembered_of(remembered);
+    let record = record_of(value);
+    let outcome = super::message_from_record(ram, reply, &settings, before, &record);
+    put_outcome(outcome, remembered, answer);
+}
+
+/// The record reader: 0, 4 or 5, and the value's words.
+#[inline(never)]
+pub fn read(bytes: &[u8], value: &mut [u16]) -> u16 {
+    let (number, record) = match super::read_record(bytes) {
+        Ok(record) => (0, record),
+        Err(number) => (number, Record::default()),
+    };
+    put(value, &value_words(&record));
+    number
+}
+
+/// The record writer: 0 or 5, and the record's bytes.
+#[inline(never)]
+pub fn write(value: &[u16], bytes: &mut [u8]) -> u16 {
+    let (number, written) = match super::write_record(&record_of(value)) {
+        Ok(written) => (0, written),
+        Err(number) => (number, [0; RECORD_BYTES]),
+    };
+    put(bytes, &written);
+    number
+}
+
+fn put_outcome(outcome: (Answer, Remembered), remembered: &mut [u16], answer: &mut [u16]) {
+    put(remembered, &remembered_words(outcome.1));
+    put(answer, &answer_words(&outcome.0));
+}
+
+/// Puts items at the front of a slice, as far as it goes.
+fn put<T: Copy>(slice: &mut [T], items: &[T]) {
+    let room = slice.len().min(items.len());
+    slice[..room].copy_from_slice(&items[..room]);
+}
+
+fn word_at(words: &[u16], place: usize) -> u16 {
+    words.get(place).copied().unwrap_or(0)
+}
+
+fn settings_of(words: &[u16]) -> Settings {
+    let yes = |place| word_at(words, place) != 0;
+    Settings {
+        address: word_at(words, 0),
+        area_b: yes(1),
+        stack_size: word_at(words, 2),
+        overwrite_invalid: yes(3),
+        separate_broadcast: yes(4),
+        illegal_receive_disable: yes(5),
+        busy_receive_disable: yes(6),
+        busy_always: yes(7),
+        service_request: yes(8),
+        subsystem_flag: yes(9),
+        terminal_flag: yes(10),
+    }
+}
+
+pub fn settings_words(settings: &Settings) -> [u16; SETTINGS_WORDS] {
+    [
+        settings.address,
+        settings.area_b.into(),
+        settings.stack_size,
+        settings.overwrite_invalid.into(),
+        settings.separate_broadcast.into(),
+        settings.illegal_receive_disable.into(),
+        settings.busy_receive_disable.into(),
+        settings.busy_always.into(),
+        settings.service_request.into(),
+        settings.subsystem_flag.into(),
+        settings.terminal_flag.into(),
+    ]
+}
+
+pub fn remembered_of(words: &[u16]) -> Remembered {
+    Remembered {
+        command: word_at(words, 0),
+        status: word_at(words, 1),
+    }
+}
+
+pub fn remembered_words(remembered: Remembered) -> [u16; REMEMBERED_WORDS] {
+    [remembered.command, remembered.status]
+}
+
+/// Flags and count are bytes in a record: a larger word is as wrong as 255.
+pub fn record_of(value: &[u16]) -> Record {
+    let mut words = [0; RECORD_WORDS];
+    if let Some(data) = value.get(HEAD_WORDS..) {
+        put(&mut words, data);
+    }
+    Record {
+        command: word_at(value, 0),
+        tag: word_at(value, 1),
+        flags: word_at(value, 2).min(0xFF),
+        count: word_at(value, 3).min(0xFF),
+        words,
+    }
+}
+
+pub fn value_words(record: &Record) -> [u16; VALUE_WORDS] {
+    let mut value = [0; VALUE_WORDS];
+    let (head, words) = value.split_at_mut(HEAD_WORDS);
+    head.copy_from_slice(&[record.command, record.tag, record.flags, record.count]);
+    words.copy_from_slice(&record.words);
+    value
+}
+
+pub fn answer_of(words: &[u16]) -> Answer {
+    Answer {
+        number: word_at(words, 0),
+        block_status: word_at(words, 1),
+        cell: word_at(words, 2),
+        pointer_before: word_at(words, 3),
+        pointer_after: word_at(words, 4),
+        status: word_at(words, 5),
+        sent: word_at(words, 6) != 0,
+        data_words: word_at(words, 7),
+        interrupt: word_at(words, 8),
+    }
+}
+
+pub fn answer_words(answer: &Answer) -> [u16; ANSWER_WORDS] {
+    [
+        answer.number,
+        answer.block_status,
+        answer.cell,
+        answer.pointer_before,
+        answer.pointer_after,
+        answer.status,
+        answer.sent.into(),
+        answer.data_words,
+        answer.interrupt,
+    ]
+}
