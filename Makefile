@@ -1,10 +1,27 @@
 # The two commands of the README, and what they are made of.
-.PHONY: demo test fmt
+.PHONY: demo test compare bench fmt
+
+# The trace program on two samples, with the columns explained.
+demo:
+	@scripts/demo
 
 # Every test. The last step is the gate itself, so its last line, 'N passed, 0 failed', is the last line printed.
 test:
 	@rt fmt --check
+	@scripts/cargo test --quiet --release
+	@scripts/compare
+	@scripts/compare-traces
 	@rt ci
+
+# The proved terminal and the proved trace program against plain Rust.
+compare:
+	@scripts/compare
+	@scripts/compare-traces
+
+# Speed of the proved side against plain Rust, as tables.
+bench:
+	@scripts/bench
 
 fmt:
 	@rt fmt
+	@scripts/cargo fmt

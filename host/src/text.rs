@@ -2,10 +2,13 @@
 //!
 //! [`pack`] turns text into the bytes that the trace program reads, [`unpack`]
 //! turns any bytes back into text, and packing that text gives the same bytes
-//! again. The README describes the lines.
+//! again. The README describes the lines. [`trace_with_changes`] shows what each
+//! message of a trace does.
 
+mod changes;
 mod pack;
 mod unpack;
 
+pub use changes::trace_with_changes;
 pub use pack::{pack, TextError};
 pub use unpack::unpack;

@@ -1,6 +1,7 @@
 //! Random traces for the trace program, and the smallest one that shows a
 //! difference.
 
+use super::case::Bench;
 use super::episode::Episode;
 use crate::random::Random;
 use crate::terminal::cells::RAM_WORDS;
@@ -35,8 +36,7 @@ pub fn random_trace(seed: u64) -> Vec<u8> {
         let place = random.pick(&[0x0100, looked_up]);
         bench.ram[place] = random.word();
     }
-    let image = &bench.ram[..RAM_WORDS];
-    let mut trace: Vec<u8> = image.iter().flat_map(|word| word.to_be_bytes()).collect();
+    let mut trace = image_of(&bench);
     for _ in 0..records {
         trace.extend(episode.record());
     }
@@ -45,6 +45,21 @@ pub fn random_trace(seed: u64) -> Vec<u8> {
         trace.truncate(length);
     }
     trace
+}
+
+/// A trace of so many records, most of them accepted, for measurements.
+pub fn long_trace(records: usize) -> Vec<u8> {
+    let (mut episode, bench) = Episode::with_settings(Random::new(1), Settings::TRACE);
+    let mut trace = image_of(&bench);
+    for _ in 0..records {
+        trace.extend(episode.record());
+    }
+    trace
+}
+
+fn image_of(bench: &Bench) -> Vec<u8> {
+    let image = bench.ram[..RAM_WORDS].iter();
+    image.flat_map(|word| word.to_be_bytes()).collect()
 }
 
 /// The smallest trace found on which the difference stays.

@@ -42,6 +42,16 @@ pub fn trace_output(input: &[u8]) -> Vec<u8> {
 
 /// [`trace_output`] of a terminal with an error planted in it.
 pub fn planted_trace_output(planted: Planted, input: &[u8]) -> Vec<u8> {
+    watched_trace_output(planted, input, |_, _| ())
+}
+
+/// [`planted_trace_output`] with a watcher, who is shown the terminal after
+/// each message and may add to the output.
+pub fn watched_trace_output(
+    planted: Planted,
+    input: &[u8],
+    mut watch: impl FnMut(&Watched, &mut Vec<u8>),
+) -> Vec<u8> {
     let mut output = Vec::new();
     let image = match input.get(..IMAGE_BYTES) {
         Some(image) => image,
@@ -56,10 +66,29 @@ pub fn planted_trace_output(planted: Planted, input: &[u8]) -> Vec<u8> {
         place: IMAGE_BYTES,
     };
     while let Some(record) = records.next_record() {
-        run.message(record, &mut output);
+        let answer = run.message(record, &mut output);
+        let watched = Watched {
+            answer: &answer,
+            ram: &run.ram,
+            reply: &run.reply,
+        };
+        watch(&watched, &mut output);
     }
     run.end(records.rest().len(), &mut output);
     output
+}
+
+/// A message's answer and what stands in RAM and reply after it.
+pub struct Watched<'a> {
+    pub answer: &'a Answer,
+    pub ram: &'a [u16],
+    pub reply: &'a [u16],
+}
+
+/// The RAM that an image stands for.
+pub fn image_words(image: &[u8]) -> Vec<u16> {
+    let words = image.chunks_exact(2);
+    words.map(|b| u16::from_be_bytes([b[0], b[1]])).collect()
 }
 
 /// The trace program for input of any length, in bounded memory.
@@ -133,17 +162,16 @@ struct Run {
 
 impl Run {
     fn new(planted: Planted, image: &[u8]) -> Run {
-        let words = image.chunks_exact(2);
         Run {
             planted,
-            ram: words.map(|b| u16::from_be_bytes([b[0], b[1]])).collect(),
+            ram: image_words(image),
             reply: [0; REPLY_WORDS],
             remembered: Remembered::default(),
             records: 0,
         }
     }
 
-    fn message(&mut self, record: &[u8], output: &mut Vec<u8>) {
+    fn message(&mut self, record: &[u8], output: &mut Vec<u8>) -> Answer {
         let (answer, remembered) = planted_message(
             self.planted,
             &mut self.ram,
@@ -155,6 +183,7 @@ impl Run {
         self.remembered = remembered;
         self.records += 1;
         push_answer(output, self.records, &answer);
+        answer
     }
 
     fn end(&self, tail: usize, output: &mut Vec<u8>) {

@@ -9,5 +9,6 @@ mod planted;
 mod programs;
 mod records;
 mod refusals;
+mod samples;
 mod text;
 mod trace;
