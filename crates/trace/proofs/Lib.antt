@@ -2,3 +2,4 @@ pub mod Runs
 pub mod Numerals
 pub mod Lines
 pub mod Walks
+pub mod Views

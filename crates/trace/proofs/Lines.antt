@@ -10,7 +10,7 @@ use borrow.Author.Tests.{eqb-true}
 use Rattle.words.proofs.Basics.{yes-or-no}
 use Rattle.message.specs.declared.answer.Answer.{Answer}
 use Rattle.trace.specs.Text.{decimalText, digits, placesUpTo}
-use Rattle.trace.specs.Line.{statusText, noneText, startText, threeWords, acceptedLine, refusedLine, lineOf}
+use Rattle.trace.specs.Line.{statusText, noneText, startText, threeWords, acceptedLine, refusedLine, lineOf, namedLine, tailLine}
 use Rattle.trace.proofs.Runs.{length-hex}
 use Rattle.trace.proofs.Numerals.{decimal-most}
 
@@ -50,3 +50,11 @@ line-most number a =
     ⊎-elim (λ (e : eqb (a .number) 0 ≡ true). rw e (accepted-most number a (eqb-true (a .number) 0 e)))
     (λ (e : eqb (a .number) 0 ≡ false). rw e (refused-most number (a .number)))
     (yes-or-no (eqb (a .number) 0))
+
+-- a tail's line is short
+pub tail-most : (n : ℕ) → length (tailLine n) ≤ 26
+unfolding tailLine namedLine
+tail-most n =
+    ⊎-elim (λ (e : eqb n 0 ≡ true). rw e (omega arith))
+    (λ (e : eqb n 0 ≡ false). rw e (simp length-append (omega (arith, decimal-most n))))
+    (yes-or-no (eqb n 0))

@@ -12,9 +12,13 @@ use Rattle.trace.specs.declared.view.Taken.{Taken}
 abbrev pub hasRecord : List ℕ → ℕ → Bool
 hasRecord trace at = leb (at + 80) (length trace)
 
--- what the record at the place reads as, and the place after it; or none, and the place as it was
+-- none, and the place as it was
+unfoldable pub noneAt : ℕ → Taken
+noneAt at = record { found = false; at = at; reading = notRead 0 }
+
+-- what the record at the place reads as, and the place after it; or none
 unfoldable pub takenAt : List ℕ → ℕ → Taken
 takenAt trace at =
     cond (hasRecord trace at)
     (record { found = true; at = at + 80; reading = readRecord (take 80 (drop at trace)) })
-    (record { found = false; at = at; reading = notRead 0 })
+    (noneAt at)

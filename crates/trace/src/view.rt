@@ -1,9 +1,10 @@
 // A view that holds the caller's trace and a place in it. Each function over it takes it apart and calls a function on the
 // slice and the number, since a struct that holds a reference is proved by hand.
 ghost use mathlib.Core.Path.{_≡_};
-ghost use Rattle.trace.specs.View.{takenAt};
+ghost use Rattle.trace.specs.View.{noneAt, takenAt};
 use words::reader::Reading;
 use words::reader::read;
+use words::value::zero_value;
 
 pub struct View<'a> {
     pub trace: &'a [u8],
@@ -15,4 +16,60 @@ pub struct Taken {
     pub found: bool,
     pub at: usize,
     pub reading: Reading,
+}
+
+// None, and the place stays.
+fn none_at(at: usize) -> Taken
+    ensures { λ r. ⌜ r ≡ noneAt at ⌝ }
+{
+    let value = zero_value();
+    let reading = Reading { number: 0, value };
+    Taken {
+        found: false,
+        at,
+        reading,
+    }
+}
+
+// The work: the record at a place of a slice, also where the place lies beyond the end.
+pub fn take_at(trace: &[u8], at: usize) -> Taken
+    ensures { λ r. ⌜ r ≡ takenAt (now (trace .entry)) at ⌝ }
+{
+    if trace.len() < at {
+        return none_at(at);
+    }
+    if trace.len() - at < 80 {
+        return none_at(at);
+    }
+    let reading = read(&trace[at..at + 80]);
+    Taken {
+        found: true,
+        at: at + 80,
+        reading,
+    }
+}
+
+pub fn view_of<'a>(trace: &'a [u8]) -> View<'a>
+    ensures { λ r. ⌜ (r .trace ≡ trace .entry) × (r .at ≡ 0) ⌝ }
+{
+    View { trace, at: 0 }
+}
+
+pub fn next<'a>(v: View<'a>) -> Taken
+    ensures { λ r. ⌜ r ≡ takenAt (now (v .entry .trace)) (v .entry .at) ⌝ }
+{
+    take_at(v.trace, v.at)
+}
+
+pub fn moved<'a>(v: View<'a>, at: usize) -> View<'a>
+    ensures { λ r. ⌜ (r .trace ≡ v .entry .trace) × (r .at ≡ at) ⌝ }
+{
+    View { trace: v.trace, at }
+}
+
+// The first record of a trace, for callers that hold no view.
+pub fn first(trace: &[u8]) -> Taken
+    ensures { λ r. ⌜ r ≡ takenAt (now (trace .entry)) 0 ⌝ }
+{
+    next(view_of(trace))
 }

@@ -1,0 +1,25 @@
+-- `put_last_lines` meets its contract.
+use native.Mathlib.Omega.{arith}
+use borrow.Author.Needs.{needs}
+use Rattle.trace.specs.Output.{lastLines}
+use Rattle.trace.proofs.Lines.{tail-most}
+use Rattle.trace.proofs.Runs.{put-then}
+use Rattle.trace.proofs.output.put_last_lines.Statement.{statement}
+use Rattle.trace.proofs.output.put_last_lines.Tie as tie
+
+put-tail-requires : tie.Need-put-tail-requires
+put-tail-requires c κs = search needs
+
+put-end-requires : tie.Need-put-end-requires
+put-end-requires c κs =
+    omega (arith, c .before .before .before .put-tail .ensures .place, tail-most (c .before .before .before .before .before .before .args .tail))
+
+same-length : tie.Need-same-length
+same-length c = search needs
+
+returns : tie.Need-returns
+unfolding lastLines
+returns c = put-then (c .before .before .before .before .before .before .put-tail .ensures) (c .before .before .put-end .ensures)
+
+pub put-last-lines-spec : {M : Type 1} → statement M
+put-last-lines-spec = tie.close (tie.spec put-tail-requires put-end-requires same-length returns)
