@@ -52,7 +52,9 @@ pub fn aligned_around(pointer: u16, size: u16) -> Window
 pub fn place(w: Window, k: u16) -> usize
     ensures { λ r. ⌜ r ≡ placeOf w k ⌝ }
 {
-    (w.start as usize) + remainder((w.offset as usize) + (k as usize), w.size as usize)
+    let size = w.size as usize;
+    let count = k as usize;
+    (w.start as usize) + remainder((w.offset as usize) + count, size)
 }
 
 // Whether k places from the pointer reach or pass the window's end.

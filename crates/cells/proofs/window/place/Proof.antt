@@ -1,11 +1,14 @@
 -- `place` meets its contract: the sum does not wrap.
-use native.Mathlib.Omega.{arith}
 use borrow.Author.Needs.{needs}
 use Prim.Native.Nat.{_+_}
 use native.Mathlib.Nat.{mod-le}
+use native.Mathlib.Omega.{arith}
 use Rattle.cells.specs.Window.{placeOf}
 use Rattle.cells.proofs.window.place.Statement.{statement}
 use Rattle.cells.proofs.window.place.Tie as tie
+
+cast-size : tie.Need-cast-size
+cast-size c = search needs
 
 cast-result : tie.Need-cast-result
 cast-result c = search needs
@@ -15,9 +18,6 @@ cast-remainder c = search needs
 
 add-remainder : tie.Need-add-remainder
 add-remainder c = search needs
-
-cast-remainder-2 : tie.Need-cast-remainder-2
-cast-remainder-2 c = search needs
 
 remainder-requires : tie.Need-remainder-requires
 remainder-requires c κs = search needs
@@ -33,10 +33,10 @@ pub place-spec : {M : Type 1} → statement M
 place-spec =
     tie.close
     (tie.spec
+    cast-size
     cast-result
     cast-remainder
     add-remainder
-    cast-remainder-2
     remainder-requires
     add-result
     returns)
