@@ -12,6 +12,9 @@ use crate::terminal::Settings;
 /// Records of the traces that are longer than any buffer.
 const LONG: usize = 20_000;
 
+/// Records that are few enough to be made simpler byte by byte.
+const FEW: usize = 4;
+
 /// The trace of a seed: an image, records of which some are damaged, a tail.
 pub fn random_trace(seed: u64) -> Vec<u8> {
     let mut random = Random::new(seed);
@@ -96,6 +99,12 @@ pub fn shrink_trace(trace: &[u8], differs: impl Fn(&[u8]) -> bool) -> Vec<u8> {
             take(&mut smallest, &|trace| trace[start..end].fill(0));
         }
         size /= 2;
+    }
+    // Data words and the like, once there are few records left.
+    if smallest.len() <= IMAGE_BYTES + FEW * RECORD_BYTES {
+        for place in IMAGE_BYTES..smallest.len() {
+            take(&mut smallest, &|trace| trace[place] = 0);
+        }
     }
     smallest
 }
