@@ -3,3 +3,5 @@ pub mod Numerals
 pub mod Lines
 pub mod Walks
 pub mod Views
+pub mod Chunks
+pub mod Printed

@@ -1,7 +1,8 @@
 -- The trace program's whole output for a whole input.
 use Prim.Native.Nat.{ℕ, _*_, _%_}
 use mathlib.Core.Bool.{true, false, cond}
-use mathlib.Core.List.{List, [], _++_}
+use mathlib.Core.Path.{_≡_}
+use mathlib.Core.List.{List, [], _∷_, _++_}
 use lib.ListN.{length, take, drop, replicate}
 use lib.Dec.{ltb}
 use Rattle.words.specs.declared.settings.Settings.{Settings}
@@ -9,7 +10,7 @@ use Rattle.words.specs.declared.settings.Area.the-variants.{A}
 use Rattle.words.specs.Settings.{nothingRemembered}
 use Rattle.words.specs.Layout.{fill, wordAt}
 use Rattle.trace.specs.Line.{tailLine, endLine, imageLine}
-use Rattle.trace.specs.Walk.{Walk, walkStart, walkAll}
+use Rattle.trace.specs.Walk.{Walk, walkStart, walkAll, anew}
 
 -- "with RT 5, area A, stack 256, overwrite-invalid on and the rest off"
 unfoldable pub programSettings : Settings
@@ -47,3 +48,22 @@ traceText ram trace =
 unfoldable pub programOutput : List ℕ → List ℕ
 programOutput input =
     cond (ltb (length input) 8192) (imageLine (length input)) (traceText (imageRam (take 8192 input)) (drop 8192 input))
+
+-- what a program writes that refills a buffer, a whole number of records each time, until the input ends with a shorter rest:
+-- each refill's lines, and after the rest the last lines
+unfoldable pub written : List (List ℕ) → List ℕ → Walk → List ℕ
+written [] rest w =
+    walkAll programSettings rest (anew w) .text
+    ++ lastLines (length rest % 80) (walkAll programSettings rest (anew w) .number)
+written (full ∷ fulls) rest w =
+    walkAll programSettings full (anew w) .text ++ written fulls rest (walkAll programSettings full (anew w))
+
+-- the refills and the rest, as they stood in the input
+unfoldable pub refilled : List (List ℕ) → List ℕ → List ℕ
+refilled [] rest = rest
+refilled (full ∷ fulls) rest = full ++ refilled fulls rest
+
+-- each refill is a whole number of records
+unfoldable pub WholeRefills : List (List ℕ) → Type 0
+WholeRefills [] = Unit
+WholeRefills (full ∷ fulls) = (length full % 80 ≡ 0) × WholeRefills fulls

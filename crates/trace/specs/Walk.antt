@@ -55,6 +55,10 @@ walkStart ram reply before number =
 unfoldable pub walkAll : Settings → List ℕ → Walk → Walk
 walkAll s trace w = walkTo s trace w (wholeRecords trace)
 
+-- the same walk with its text written out: the next text begins anew
+abbrev pub anew : Walk → Walk
+anew w = record { state = w .state; number = w .number; text = [] }
+
 -- what the function hands back by value
 abbrev pub walkedOf : Walk → Walked
 walkedOf w = record { remembered = w .state .remembered; number = w .number; used = length (w .text) }
