@@ -1,0 +1,23 @@
+-- `solkverva_write` meets its contract.
+use borrow.Author.Needs.{needs}
+use Rattle.boundary.proofs.calls.solkverva_write.Statement.{statement}
+use Rattle.boundary.proofs.calls.solkverva_write.Tie as tie
+
+value-from-requires : tie.Need-value-from-requires
+value-from-requires c κs = search needs
+
+write-requires : tie.Need-write-requires
+write-requires c κs = search needs
+
+put-bytes-requires : tie.Need-put-bytes-requires
+put-bytes-requires c κs = search needs
+
+same-length : tie.Need-same-length
+same-length c = search needs
+
+returns : tie.Need-returns
+returns c = (cc, cc)
+
+pub solkverva-write-spec : {M : Type 1} → statement M
+solkverva-write-spec =
+    tie.close (tie.spec value-from-requires write-requires put-bytes-requires same-length returns)

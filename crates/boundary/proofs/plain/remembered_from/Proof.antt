@@ -1,0 +1,18 @@
+-- `remembered_from` meets its contract.
+use borrow.Author.Needs.{needs}
+use Rattle.boundary.specs.Boundary.{rememberedFrom}
+use Rattle.boundary.proofs.plain.remembered_from.Statement.{statement}
+use Rattle.boundary.proofs.plain.remembered_from.Tie as tie
+
+word-at-requires : tie.Need-word-at-requires
+word-at-requires c κs = search needs
+
+word-at-requires-2 : tie.Need-word-at-requires-2
+word-at-requires-2 c κs = search needs
+
+returns : tie.Need-returns
+unfolding rememberedFrom
+returns c = cc
+
+pub remembered-from-spec : {M : Type 1} → statement M
+remembered-from-spec = tie.close (tie.spec word-at-requires word-at-requires-2 returns)
