@@ -125,13 +125,17 @@ fn replay(file: &str, planted: Planted) -> Result<bool, Box<dyn Error>> {
     let text = fs::read_to_string(file).map_err(|error| format!("{file}: {error}"))?;
     let case = read_case(&text).map_err(|error| format!("{file}: {error}"))?;
     let plain = Plain(planted);
-    let (answers, _) = case.run(&Proved);
-    println!("{answers:?}");
+    let (answers, bench) = case.run(&Proved);
+    println!("the proved terminal:");
+    print!("{}", answers.lines());
+    println!("what it changed (before, then after):");
+    print!("{}", case.bench.differences(&bench));
     let differs = case.differs(&plain, &Proved);
     if differs {
-        print_case(&case, &plain);
+        println!("what differs (plain Rust, then the proved terminal):");
+        print!("{}", case.differences(&plain, &Proved));
     } else {
-        println!("no difference");
+        println!("no difference between plain Rust and the proved terminal");
     }
     Ok(!differs)
 }

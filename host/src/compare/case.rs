@@ -120,15 +120,47 @@ impl Case {
         lines.debug("reader", &left_answers.read, &right_answers.read);
         lines.debug("writer", &left_answers.written, &right_answers.written);
         lines.answer(&left_answers.answer, &right_answers.answer);
-        let (left_memory, right_memory) = (left_bench.remembered, right_bench.remembered);
-        lines.word(
-            "remembered command",
-            left_memory.command,
-            right_memory.command,
-        );
-        lines.word("remembered status", left_memory.status, right_memory.status);
-        lines.words("ram", &left_bench.ram, &right_bench.ram);
-        lines.words("reply", &left_bench.reply, &right_bench.reply);
+        lines.bench(&left_bench, &right_bench);
+        lines.0
+    }
+}
+
+impl Bench {
+    /// A line for each word in which another bench differs.
+    pub fn differences(&self, other: &Bench) -> String {
+        let mut lines = Lines(String::new());
+        lines.bench(self, other);
+        lines.0
+    }
+}
+
+impl Answers {
+    /// What was answered, for a person to read.
+    pub fn lines(&self) -> String {
+        let mut lines = Lines(String::new());
+        if let Some((number, cell)) = self.area {
+            lines.push(format_args!("whole-area check: {number}, cell {cell}"));
+        }
+        if let Some((number, _)) = self.read {
+            lines.push(format_args!("reader: {number}"));
+        }
+        if let Some((number, _)) = self.written {
+            lines.push(format_args!("writer: {number}"));
+        }
+        let answer = &self.answer;
+        lines.push(format_args!("number: {}", answer.number));
+        if answer.number == 0 {
+            let sent = if answer.sent { "sent" } else { "not sent" };
+            lines.push(format_args!("block status: {:04X}", answer.block_status));
+            lines.push(format_args!("cell: {}", answer.cell));
+            lines.push(format_args!(
+                "pointer: {:04X}, then {:04X}",
+                answer.pointer_before, answer.pointer_after
+            ));
+            lines.push(format_args!("status: {:04X}, {sent}", answer.status));
+            lines.push(format_args!("data words sent: {}", answer.data_words));
+            lines.push(format_args!("interrupt word: {:04X}", answer.interrupt));
+        }
         lines.0
     }
 }
@@ -142,13 +174,13 @@ impl Lines {
 
     fn debug<T: std::fmt::Debug + PartialEq>(&mut self, name: &str, left: &T, right: &T) {
         if left != right {
-            self.push(format_args!("{name}: {left:?} or {right:?}"));
+            self.push(format_args!("{name}: {left:?}, {right:?}"));
         }
     }
 
     fn word(&mut self, name: &str, left: u16, right: u16) {
         if left != right {
-            self.push(format_args!("{name}: {left:04X} or {right:04X}"));
+            self.push(format_args!("{name}: {left:04X}, {right:04X}"));
         }
     }
 
@@ -156,6 +188,18 @@ impl Lines {
         for (place, (&left, &right)) in left.iter().zip(right).enumerate() {
             self.word(&format!("{name} {place:04X}"), left, right);
         }
+    }
+
+    fn bench(&mut self, left: &Bench, right: &Bench) {
+        let (left_memory, right_memory) = (left.remembered, right.remembered);
+        self.word(
+            "remembered command",
+            left_memory.command,
+            right_memory.command,
+        );
+        self.word("remembered status", left_memory.status, right_memory.status);
+        self.words("ram", &left.ram, &right.ram);
+        self.words("reply", &left.reply, &right.reply);
     }
 
     fn answer(&mut self, left: &Answer, right: &Answer) {

@@ -144,9 +144,14 @@ pub fn read_case(text: &str) -> Result<Case, TextError> {
             }
             Some("bytes") => message = Some(Message::Bytes(tokens.bytes()?)),
             Some("value") => message = Some(Message::Value(read_value(&mut tokens)?)),
-            _ => {
+            None | Some("ram" | "message" | "raw") => {
                 packed_lines.push_str(line);
                 tokens.rest = "".split_whitespace();
+            }
+            other => {
+                let expected =
+                    "settings, lent, remembered, reply, ram, message, raw, bytes or value";
+                return tokens.mismatch(other, expected);
             }
         }
         tokens.end()?;

@@ -56,3 +56,45 @@ fn errors_have_names() {
     }
     assert_eq!(Planted::named("none"), None);
 }
+
+#[test]
+fn errors_in_a_case_name_the_line() {
+    for (text, expected) in [
+        (
+            "ram 0 1\nvalu 1\n",
+            "line 2: found \"valu\", expected settings, lent,",
+        ),
+        (
+            "ram 0 1\n",
+            "line 1: found no message, expected a message, raw,",
+        ),
+        (
+            "settings address 5 area C",
+            "line 1: found \"C\", expected A or B",
+        ),
+        (
+            "settings address 5 area A stack 256 loud",
+            "line 1: found \"loud\", expected the name",
+        ),
+        (
+            "lent ram 9999 reply 33",
+            "line 1: found \"9999\", expected a decimal number up to 4160",
+        ),
+        (
+            "value 2861 tag",
+            "line 1: found the end of the line, expected a time tag of",
+        ),
+        ("bytes 28 x", "line 1: found \"x\", expected bytes of two"),
+        (
+            "remembered 1 2 3",
+            "line 1: found \"3\", expected the end of the line",
+        ),
+        (
+            "\n\nmessage 2861 words",
+            "line 3: found words without a word, expected",
+        ),
+    ] {
+        let error = read_case(text).unwrap_err().to_string();
+        assert!(error.starts_with(expected), "{error}");
+    }
+}
