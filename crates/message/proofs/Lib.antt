@@ -12,3 +12,4 @@ pub mod Accepted
 pub mod FromBytes
 pub mod Refusals
 pub mod Edges
+pub mod Determined
