@@ -32,7 +32,10 @@ same-length : tie.Need-same-length
 same-length c = search needs
 
 returns : tie.Need-returns
-returns c = search entry-put
+returns c =
+    entry-put _ _ _ _ _ _ _ _ (c .before .before .before .before .before .before .before .before .before .before .before .before .before .before .put .ensures) (c .before .before .before .before .before .before .before .before .before .before .put2 .ensures)
+    (c .before .before .before .before .before .before .put3 .ensures)
+    (c .before .before .put4 .ensures)
 
 pub put-entry-spec : {M : Type 1} → statement M
 put-entry-spec =
