@@ -66,7 +66,7 @@ module _
     next-window =
         let p = stackPointer (x .ram) s in
         let m = s .«stack_size» in
-        let q : 0 < m = stack-nonempty (x .ram) s (sure s v x g f .listed) (sure s v x g f .stack) in
+        let q : 0 < m = stack-nonempty (x .ram) s (sure s v x g f .agreed) (sure s v x g f .stack) in
         rw (done s v x g f .ram, stack-moves (x .ram) s v (sure s v x g f))
         (aligned-moved p m 4 q ∙ ap (λ (b : Window). record { start = b .start; size = b .size; offset = (b .offset + 4) % b .size }) w)
 

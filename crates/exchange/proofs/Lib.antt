@@ -9,3 +9,4 @@ pub mod Entries
 pub mod Runs
 pub mod Theorem
 pub mod NotEmpty
+pub mod Determined
