@@ -5,3 +5,4 @@ pub mod Walks
 pub mod Views
 pub mod Chunks
 pub mod Printed
+pub mod Determined

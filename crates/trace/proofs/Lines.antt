@@ -10,7 +10,7 @@ use borrow.Author.Tests.{eqb-true}
 use Rattle.words.proofs.Basics.{yes-or-no}
 use Rattle.message.specs.declared.answer.Answer.{Answer}
 use Rattle.trace.specs.Text.{decimalText, digits, placesUpTo}
-use Rattle.trace.specs.Line.{statusText, noneText, startText, threeWords, acceptedLine, refusedLine, lineOf, namedLine, tailLine}
+use Rattle.trace.specs.Line.{statusText, noneText, startText, threeWords, acceptedLine, refusedLine, lineOf, namedLine, tailLine, endLine}
 use Rattle.trace.proofs.Runs.{length-hex}
 use Rattle.trace.proofs.Numerals.{decimal-most}
 
@@ -58,3 +58,7 @@ tail-most n =
     ⊎-elim (λ (e : eqb n 0 ≡ true). rw e (omega arith))
     (λ (e : eqb n 0 ≡ false). rw e (simp length-append (omega (arith, decimal-most n))))
     (yes-or-no (eqb n 0))
+
+pub end-most : (n : ℕ) → length (endLine n) ≤ 26
+unfolding endLine namedLine
+end-most n = simp length-append (omega (arith, decimal-most n))

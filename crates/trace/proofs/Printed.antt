@@ -12,9 +12,12 @@ use borrow.Author.Tests.{lt-ltb, le-ltb}
 use Rattle.words.specs.declared.settings.Settings.{Settings}
 use Rattle.words.specs.declared.settings.Remembered.{Remembered}
 use Rattle.words.specs.Settings.{nothingRemembered}
-use Rattle.trace.specs.Line.{imageLine}
-use Rattle.trace.specs.Walk.{Walk, walkAll, walkStart, anew}
+use Rattle.trace.specs.declared.walk.Walked.{Walked}
+use Rattle.trace.specs.Line.{imageLine, namedLine}
+use Rattle.trace.specs.Walk.{Walk, walkAll, walkStart, walkedOf, anew}
 use Rattle.trace.specs.Output.{programSettings, imageRam, lastLines, traceText, programOutput, written, refilled, WholeRefills}
+use Rattle.trace.proofs.Numerals.{decimal-most}
+use Rattle.trace.proofs.Lines.{tail-most, end-most}
 use Rattle.trace.proofs.Walks.{text-most}
 use Rattle.trace.proofs.Chunks.{walk-append, all-anew}
 
@@ -86,3 +89,19 @@ pub front : (room text : List ℕ) → length text ≤ length room → take (len
 front room text h =
     let r : 0 + length text ≤ length room = omega arith in
     rw (sets-eq text room 0 r) (take-at text (drop (0 + length text) room) (length text) refl)
+
+-- so what a walk says it put into such a buffer is there
+pub used-fits :
+    (s : Settings) (trace ram reply : List ℕ) (before : Remembered) (number : ℕ) (walked : Walked) →
+    walked ≡ walkedOf (walkAll s trace (walkStart ram reply before number)) →
+    walked .used ≤ length trace
+used-fits s trace ram reply before number walked e = rw e (text-fits s trace ram reply before number)
+
+-- the last lines are short
+pub last-most : (tail number : ℕ) → length (lastLines tail number) ≤ 52
+unfolding lastLines
+last-most tail number = rw length-append (omega (arith, tail-most tail, end-most number))
+
+pub image-most : (n : ℕ) → length (imageLine n) ≤ 27
+unfolding imageLine namedLine
+image-most n = simp length-append (omega (arith, decimal-most n))

@@ -1,5 +1,5 @@
 -- Where a walk stands after some records.
-use Prim.Native.Nat.{ℕ, zero, suc, _+_, _*_, _≤_}
+use Prim.Native.Nat.{ℕ, zero, suc, _+_, _*_, _%_, _^_, _<_, _≤_}
 use native.Mathlib.Nat.{zero-add}
 use native.Mathlib.Numerals.{add-one}
 use native.Mathlib.Omega.{arith}
@@ -77,3 +77,12 @@ pub stands-place :
     Stands (walkTo s trace w n) room ram reply out walked →
     walked .used ≤ length (w .text) + 72 * n
 stands-place s trace w n a = rw (a .back) (text-most s trace w n)
+
+-- the number counts records, refused ones too
+pub walk-number :
+    (s : Settings) (trace : List ℕ) (w : Walk) (n : ℕ) →
+    w .number < 2 ^ 64 →
+    walkTo s trace w n .number ≡ (w .number + n) % 2 ^ 64
+unfolding walkTo walkRecord
+walk-number s trace w zero h = omega arith
+walk-number s trace w (suc n) h = omega (arith, walk-number s trace w n h)

@@ -1,0 +1,118 @@
+// Reads a RAM image and a trace from standard input, and prints a line for each record.
+//
+// Thin: what is printed is settled in the library. A refill is a whole number of records, so none is split, and all lines of a
+// refill are written at once.
+ghost use Prim.Native.Nat.{_≤_};
+ghost use lib.ListN.{length};
+use libc::STDIN_FILENO;
+use libc::STDOUT_FILENO;
+use trace::output::load_image;
+use trace::output::program_settings;
+use trace::output::put_image_line;
+use trace::output::put_last_lines;
+use trace::walk::walk;
+use words::settings::Remembered;
+use words::settings::nothing_remembered;
+
+// Where the walk stands after a refill: how many bytes are left over, whether the lines were written, and whether the input may
+// go on.
+struct Standing {
+    remembered: Remembered,
+    number: u64,
+    left: usize,
+    written: bool,
+    more: bool,
+}
+
+// Writes the text at the front of the buffer.
+fn print(out: &[u8], used: usize) -> bool
+    requires { ⌜ used ≤ length (now out) ⌝ }
+{
+    io::write_all(STDOUT_FILENO, &out[..used])
+}
+
+// Fills the buffer, walks its whole records and writes their lines. A short fill is the end of the input.
+fn refill(
+    ram: &mut [u16],
+    reply: &mut [u16],
+    buffer: &mut [u8],
+    out: &mut [u8],
+    at: Standing,
+) -> Standing
+    requires { ⌜ length (now buffer) ≤ length (now out) ⌝ }
+{
+    let got = io::read_full(STDIN_FILENO, buffer);
+    let before = at.remembered;
+    let w = walk(
+        ram,
+        reply,
+        out,
+        program_settings(),
+        before,
+        at.number,
+        &buffer[..got],
+    );
+    let written = print(out, w.used);
+    let remembered = w.remembered;
+    Standing {
+        remembered,
+        number: w.number,
+        left: got % 80,
+        written,
+        more: written && got == buffer.len(),
+    }
+}
+
+// A proved loop has to end, and nothing says that an input does. So it counts down from a number that no run uses up. After a
+// line that could not be written no end line follows.
+fn run(ram: &mut [u16], reply: &mut [u16], buffer: &mut [u8], out: &mut [u8])
+    requires { ⌜ (length (now buffer) ≤ length (now out)) × (100 ≤ length (now out)) ⌝ }
+{
+    let remembered = nothing_remembered();
+    let mut at = Standing {
+        remembered,
+        number: 0,
+        left: 0,
+        written: true,
+        more: true,
+    };
+    let mut turns = u64::MAX;
+    while turns > 0 && at.more {
+        at = refill(ram, reply, buffer, out, at);
+        turns -= 1;
+    }
+    if at.written {
+        let used = put_last_lines(out, at.left, at.number);
+        print(out, used);
+    }
+}
+
+// The image, and then the trace.
+fn image_and_trace(
+    ram: &mut [u16],
+    reply: &mut [u16],
+    image: &mut [u8],
+    buffer: &mut [u8],
+    out: &mut [u8],
+)
+    requires { ⌜ (length (now buffer) ≤ length (now out)) × (100 ≤ length (now out)) ⌝ }
+{
+    let got = io::read_full(STDIN_FILENO, image);
+    if got < image.len() {
+        let used = put_image_line(out, got);
+        print(out, used);
+        return;
+    }
+    load_image(ram, image);
+    run(ram, reply, buffer, out);
+}
+
+// The buffer holds 819 records, and their lines are shorter.
+fn main() {
+    let mut ram = [0u16; 4096];
+    let mut reply = [0u16; 33];
+    let mut image = [0u8; 8192];
+    let mut buffer = [0u8; 65520];
+    let mut out = [0u8; 65520];
+    image_and_trace(&mut ram, &mut reply, &mut image, &mut buffer, &mut out);
+}
