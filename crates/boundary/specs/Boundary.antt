@@ -9,11 +9,11 @@ use Rattle.words.specs.declared.settings.Settings.{Settings}
 use Rattle.words.specs.declared.settings.Area.{Area}
 use Rattle.words.specs.declared.settings.Area.the-variants.{A, B}
 use Rattle.words.specs.declared.settings.Remembered.{Remembered}
-use Rattle.words.specs.declared.value.Record.{Record}
-use Rattle.words.specs.Layout.{fill}
-use Rattle.words.specs.Value.{zeroWords}
+use Rattle.records.specs.declared.value.Record.{Record}
+use Rattle.records.specs.Layout.{fill}
+use Rattle.records.specs.Value.{zeroWords}
 use Rattle.cells.specs.declared.area.Checked.{Checked}
-use Rattle.cells.specs.Map.{bitOf}
+use Rattle.memory.specs.Map.{bitOf}
 use Rattle.message.specs.declared.answer.Answer.{Answer}
 
 -- yes is any word but 0

@@ -1,7 +1,7 @@
 // The exported functions.
 ghost use mathlib.Core.Path.{_≡_};
-ghost use Rattle.words.specs.Layout.{readRecord};
-ghost use Rattle.words.specs.Writing.{writeRecord};
+ghost use Rattle.records.specs.Layout.{readRecord};
+ghost use Rattle.records.specs.Writing.{writeRecord};
 ghost use Rattle.cells.specs.Area.{checkArea};
 ghost use Rattle.message.specs.Message.{outcomeOfBytes, ramAfterBytes, replyAfterBytes, outcomeOfValue, ramAfterValue, replyAfterValue};
 ghost use Rattle.boundary.specs.Boundary.{settingsFrom, rememberedFrom, rememberedInto, answerInto, valueFrom, valueInto, bytesInto, checkWord};
@@ -15,8 +15,8 @@ use crate::plain::value_from;
 use cells::area::check_area;
 use message::serve::message_from_bytes;
 use message::serve::message_from_value;
-use words::reader::read;
-use words::writer::write;
+use records::reader::read;
+use records::writer::write;
 
 // The whole-area check: the number in the upper half, the cell in the lower.
 #[no_mangle]

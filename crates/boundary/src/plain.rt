@@ -4,20 +4,20 @@ ghost use mathlib.Core.Bool.{not};
 ghost use Prim.Native.Nat.{min, _+_};
 ghost use lib.ListN.{getD};
 ghost use Rattle.boundary.specs.Boundary.{areaFrom, settingsFrom, rememberedFrom, rememberedInto, answerInto, over, valueFrom, valueInto, bytesInto};
-ghost use Rattle.words.specs.Layout.{fill};
-ghost use Rattle.words.specs.Value.{zeroWords};
-ghost use Rattle.cells.specs.Map.{bitOf};
+ghost use Rattle.records.specs.Layout.{fill};
+ghost use Rattle.records.specs.Value.{zeroWords};
+ghost use Rattle.memory.specs.Map.{bitOf};
 ghost use lib.Dec.{eqb};
 ghost use lib.ListN.{set};
 ghost use lib.Seq.{sets};
 ghost use mathlib.Core.List.{[], _∷_};
-use cells::ram::put;
-use cells::ram::word_at;
+use memory::ram::put;
+use memory::ram::word_at;
 use message::answer::Answer;
+use records::value::Record;
 use words::settings::Area;
 use words::settings::Remembered;
 use words::settings::Settings;
-use words::value::Record;
 
 fn yes_at(xs: &[u16], i: usize) -> bool
     ensures { λ r. ⌜ r ≡ not (eqb (getD (now (xs .entry)) i 0) 0) ⌝ }

@@ -14,10 +14,11 @@ use Rattle.words.specs.declared.settings.Settings.{Settings}
 use Rattle.words.specs.Settings.{settingsRefused}
 use Rattle.words.proofs.SettingsLaws.{settings-agreed}
 use Rattle.words.proofs.Basics.{and-left, and-right}
-use Rattle.cells.specs.Window.{aligned, placeOf, meetsFixed, fitsBelow}
+use Rattle.memory.specs.Window.{aligned, placeOf, meetsFixed, fitsBelow}
 use Rattle.cells.specs.Stack.{stackPointer, stackWindow, stackSound}
-use Rattle.cells.proofs.Wrap.{place-from, place-below, aligned-size, aligned-same, SameRun}
-use Rattle.cells.proofs.Sound.{OffFixed, fixed-off, off-fixed, OrdinaryAddress, ordinary-address}
+use Rattle.memory.proofs.Wrap.{place-from, place-below, aligned-size, aligned-same, SameRun}
+use Rattle.memory.proofs.Places.{OrdinaryAddress}
+use Rattle.cells.proofs.Sound.{OffFixed, fixed-off, off-fixed, ordinary-address}
 
 -- the sentence "The stack is sound if ..", fact by fact
 pub record StackSound (ram : List ℕ) (s : Settings) : Type 0 where

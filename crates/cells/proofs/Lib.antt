@@ -1,11 +1,7 @@
 pub mod Turns
-pub mod Flags
-pub mod Wrap
-pub mod Meets
 pub mod Sizes
 pub mod Sound
 pub mod Block
-pub mod Places
 pub mod Lowest
 pub mod Listed
 pub mod Whole

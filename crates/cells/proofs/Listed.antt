@@ -11,12 +11,12 @@ use Rattle.words.specs.declared.settings.Settings.{Settings}
 use Rattle.words.specs.Command.{transmits, subaddressOf}
 use Rattle.words.specs.Settings.{isBroadcast}
 use Rattle.words.proofs.Basics.{and-left, and-right, lt-or-ge}
-use Rattle.cells.specs.declared.kind.Kind.{Kind}
-use Rattle.cells.specs.declared.kind.Kind.the-variants.{Receive, Transmit, Broadcast}
-use Rattle.cells.specs.Kind.{cellNumber, kindNumbered, kindOf}
+use Rattle.memory.specs.declared.kind.Kind.{Kind}
+use Rattle.memory.specs.declared.kind.Kind.the-variants.{Receive, Transmit, Broadcast}
+use Rattle.memory.specs.Kind.{cellNumber, kindNumbered, kindOf}
 use Rattle.cells.specs.Cell.{cellAt}
 use Rattle.cells.specs.Area.{isRead, cellNumbered}
-use Rattle.cells.proofs.Flags.{or-either, not-both}
+use Rattle.memory.proofs.Flags.{or-either, not-both}
 
 -- "subaddresses 1-30; broadcast cells are read only if separate-broadcast is on"
 pub record Listed (s : Settings) (n : ℕ) : Type 0 where

@@ -9,12 +9,13 @@ use Rattle.words.proofs.Basics.{and-left, and-right, or-left, or-right}
 use Rattle.cells.specs.declared.cell.Scheme.{Scheme}
 use Rattle.cells.specs.declared.cell.Scheme.the-variants.{Single, Double, Circular}
 use Rattle.cells.specs.declared.cell.Cell.{Cell}
-use Rattle.cells.specs.declared.window.Window.{Window}
-use Rattle.cells.specs.Window.{placeOf, meets, meetsFixed, windowsMeet, fitsBelow}
+use Rattle.memory.specs.declared.window.Window.{Window}
+use Rattle.memory.specs.Window.{placeOf, meets, meetsFixed, windowsMeet, fitsBelow}
 use Rattle.cells.specs.Cell.{windowOf, doubleFits, cellWindow, soundCell}
-use Rattle.cells.proofs.Flags.{or-neither}
-use Rattle.cells.proofs.Wrap.{place-from, place-below, SameRun}
-use Rattle.cells.proofs.Meets.{nothing-shared}
+use Rattle.memory.proofs.Flags.{or-neither}
+use Rattle.memory.proofs.Wrap.{place-from, place-below, SameRun}
+use Rattle.memory.proofs.Meets.{nothing-shared}
+use Rattle.memory.proofs.Places.{OrdinaryAddress}
 use Rattle.cells.proofs.Sizes.{Sized, window-nonempty, window-kept}
 
 -- the window meets no fixed area
@@ -82,12 +83,6 @@ module _ (length : ℕ) (block : Window) (c : Cell) where
         off-fixed w (f .fixed),
         f .stack,
       )
-
--- an address that is in RAM and in no fixed area
-pub record OrdinaryAddress (length x : ℕ) : Type 0 where
-  pub inside : x < length
-  pub tables : 0x100 ≤ x → x < 0x248 → ⊥
-  pub illegal : 0x300 ≤ x → x < 0x400 → ⊥
 
 pub ordinary-address :
     (length : ℕ) (w : Window) → w .start + w .size ≤ length → OffFixed w → (x : ℕ) → w .start ≤ x →

@@ -15,12 +15,12 @@ use Rattle.words.specs.Command.{subaddressOf}
 use Rattle.words.specs.Refusal.{firstOf, inOrder, firstRefusal}
 use Rattle.words.specs.Settings.{settingsRefused}
 use Rattle.words.proofs.Basics.{and-left, and-right, yes-or-no, lt-or-ge}
-use Rattle.cells.specs.Map.{ramRefused}
-use Rattle.cells.specs.Kind.{kindOf, cellNumber}
+use Rattle.memory.specs.Map.{ramRefused}
+use Rattle.memory.specs.Kind.{kindOf, cellNumber}
 use Rattle.cells.specs.Cell.{cellAt, soundCell}
 use Rattle.cells.specs.Stack.{stackWindow, stackSound}
 use Rattle.cells.specs.Area.{isRead, cellNumbered, isUnsound, lowest, lowestUnsound, areaGrounds, areaRefusal, checkArea}
-use Rattle.cells.proofs.Flags.{not-both}
+use Rattle.memory.proofs.Flags.{not-both}
 use Rattle.cells.proofs.Sound.{CellSound, sound-cell-facts, cell-facts-sound}
 use Rattle.cells.proofs.Block.{StackSound, stack-sound-facts, stack-facts-sound}
 use Rattle.cells.proofs.Lowest.{Lowest, lowest-is}

@@ -10,10 +10,10 @@ use Rattle.words.specs.declared.refusal.Grounds.{Grounds}
 use Rattle.words.specs.Refusal.{firstRefusal}
 use Rattle.words.specs.Settings.{settingsRefused}
 use Rattle.cells.specs.declared.cell.Cell.{Cell}
-use Rattle.cells.specs.declared.window.Window.{Window}
+use Rattle.memory.specs.declared.window.Window.{Window}
 use Rattle.cells.specs.declared.area.Checked.{Checked}
-use Rattle.cells.specs.Map.{ramRefused}
-use Rattle.cells.specs.Kind.{kindNumbered}
+use Rattle.memory.specs.Map.{ramRefused}
+use Rattle.memory.specs.Kind.{kindNumbered}
 use Rattle.cells.specs.Cell.{cellAt, soundCell}
 use Rattle.cells.specs.Stack.{stackWindow, stackSound}
 

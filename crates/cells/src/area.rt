@@ -5,12 +5,12 @@ ghost use Rattle.cells.specs.Area.{isRead, cellNumbered, isUnsound, lowe
 use crate::cell::Cell;
 use crate::cell::cell_at;
 use crate::cell::sound_cell;
-use crate::kind::Kind;
-use crate::kind::kind_numbered;
-use crate::map::ram_refused;
 use crate::stack::stack_sound;
 use crate::stack::stack_window;
-use crate::window::Window;
+use memory::kind::Kind;
+use memory::kind::kind_numbered;
+use memory::map::ram_refused;
+use memory::window::Window;
 use words::choose::both;
 use words::choose::either;
 use words::choose::no;

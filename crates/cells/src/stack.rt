@@ -2,12 +2,12 @@
 ghost use mathlib.Core.Path.{_≡_};
 ghost use lib.ListN.{length};
 ghost use Rattle.cells.specs.Stack.{stackPointer, stackWindow, stackSound};
-use crate::map::stack_pointer_place;
-use crate::ram::word_at;
-use crate::window::Window;
-use crate::window::aligned_around;
-use crate::window::fits_below;
-use crate::window::meets_fixed;
+use memory::map::stack_pointer_place;
+use memory::ram::word_at;
+use memory::window::Window;
+use memory::window::aligned_around;
+use memory::window::fits_below;
+use memory::window::meets_fixed;
 use words::choose::both;
 use words::choose::no;
 use words::settings::Settings;

@@ -3,8 +3,8 @@ ghost use Prim.Native.Nat.{_≤_};
 use crate::image;
 use crate::show;
 use cells::area::check_area;
-use cells::map::is_illegal_at;
-use cells::ram::put;
+use memory::map::is_illegal_at;
+use memory::ram::put;
 use words::settings::Area;
 use words::settings::Settings;
 

@@ -1,6 +1,6 @@
 // RAM images: runs of equal words, single words, and the makers' complete example (document 000, Table 133) for terminal 7.
 ghost use Prim.Native.Nat.{_≤_};
-use cells::ram::put;
+use memory::ram::put;
 use words::settings::Area;
 use words::settings::Settings;
 

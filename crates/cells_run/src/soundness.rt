@@ -5,10 +5,10 @@ use cells::cell::Cell;
 use cells::cell::Scheme;
 use cells::cell::sound_cell;
 use cells::cell::window_of;
-use cells::kind::Kind;
-use cells::ram::put;
 use cells::stack::stack_sound;
-use cells::window::aligned_around;
+use memory::kind::Kind;
+use memory::ram::put;
+use memory::window::aligned_around;
 use words::settings::Area;
 
 // A cell of this scheme and pointer, beside a stack of 256 words around `stack`.

@@ -4,12 +4,12 @@ use crate::image;
 use crate::show;
 use cells::cell::Scheme;
 use cells::cell::cell_at;
-use cells::kind::Kind;
-use cells::kind::cell_number;
-use cells::kind::kind_of;
-use cells::map::is_busy_at;
-use cells::map::is_illegal_at;
-use cells::ram::put;
+use memory::kind::Kind;
+use memory::kind::cell_number;
+use memory::kind::kind_of;
+use memory::map::is_busy_at;
+use memory::map::is_illegal_at;
+use memory::ram::put;
 use words::command;
 use words::settings::Area;
 

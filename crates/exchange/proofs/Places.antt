@@ -5,14 +5,14 @@ use mathlib.Core.Path.{_≡_, refl, sym, ap, _∙_}
 use mathlib.Core.Bool.{true, true≢false}
 use mathlib.Core.List.{List, [], _∷_, map}
 use lib.ListN.{length}
-use Rattle.words.specs.declared.value.Record.{Record}
+use Rattle.records.specs.declared.value.Record.{Record}
 use Rattle.words.specs.declared.settings.Settings.{Settings}
 use Rattle.words.specs.Command.{subaddressOf}
 use Rattle.words.proofs.Basics.{and-left, and-right}
-use Rattle.cells.specs.Kind.{kindOf}
+use Rattle.memory.specs.Kind.{kindOf}
 use Rattle.cells.specs.Stack.{stackWindow}
-use Rattle.cells.proofs.Wrap.{SameRun}
-use Rattle.message.specs.Target.{cellFor, targetOf}
+use Rattle.memory.proofs.Wrap.{SameRun}
+use Rattle.decide.specs.Target.{cellFor, targetOf}
 use Rattle.message.specs.Run.{State, stepValue, run, Effect, effectOf, effects}
 use Rattle.message.proofs.Kept.{Kept}
 use Rattle.exchange.specs.Order.{swapAt, exchangeAll}

@@ -4,10 +4,10 @@ use native.Mathlib.Omega.{arith}
 use mathlib.Core.Path.{_≡_, refl, ap, _∙_}
 use mathlib.Core.List.{List, [], _∷_, map}
 use lib.ListN.{length}
-use Rattle.words.specs.declared.value.Record.{Record}
+use Rattle.records.specs.declared.value.Record.{Record}
 use Rattle.words.specs.declared.settings.Settings.{Settings}
 use Rattle.message.specs.Answer.{acceptedWith}
-use Rattle.message.specs.Plan.{planOf}
+use Rattle.decide.specs.Plan.{planOf}
 use Rattle.message.specs.Run.{State, stepValue, run, Effect, effectOf, effects}
 use Rattle.exchange.specs.Kept.{lastWord, overFront, repliedAll, rememberedLast}
 use Rattle.exchange.specs.Exchanged.{allDone}

@@ -6,24 +6,24 @@ use mathlib.Core.Logic.{⊎-elim}
 use mathlib.Core.Bool.{true}
 use mathlib.Core.List.{List, [], _∷_}
 use lib.ListN.{length, getD}
-use Rattle.words.specs.declared.value.Record.{Record}
+use Rattle.records.specs.declared.value.Record.{Record}
 use Rattle.words.specs.declared.settings.Settings.{Settings}
 use Rattle.words.specs.Command.{subaddressOf}
 use Rattle.words.specs.Settings.{isOwn}
 use Rattle.words.proofs.Basics.{eq-or-ne, and-left, and-right}
-use Rattle.cells.specs.declared.window.Window.{Window}
-use Rattle.cells.specs.Map.{lookupPlace, controlPlace, stackPointerPlace, busyPlace, illegalPlace, isBusyAt, isIllegalAt}
-use Rattle.cells.specs.Window.{placeOf}
-use Rattle.cells.specs.Kind.{cellNumber, kindOf}
+use Rattle.memory.specs.declared.window.Window.{Window}
+use Rattle.memory.specs.Map.{lookupPlace, controlPlace, stackPointerPlace, busyPlace, illegalPlace, isBusyAt, isIllegalAt}
+use Rattle.memory.specs.Window.{placeOf}
+use Rattle.memory.specs.Kind.{cellNumber, kindOf}
 use Rattle.cells.specs.Stack.{stackPointer, stackWindow}
-use Rattle.cells.proofs.Wrap.{SameRun}
+use Rattle.memory.proofs.Wrap.{SameRun}
 use Rattle.cells.proofs.Block.{StackSound, stack-address}
 use Rattle.cells.proofs.Sound.{sound-place}
 use Rattle.cells.proofs.Listed.{number-below}
-use Rattle.cells.proofs.Places.{lookup-between, control-between, stack-pointer-between, busy-between, illegal-between}
-use Rattle.message.specs.declared.plan.Deed.{Deed}
-use Rattle.message.specs.Target.{cellFor, isIllegal, isBusy, targetOf}
-use Rattle.message.specs.Plan.{deedOf, entryOf, planOf}
+use Rattle.memory.proofs.Places.{lookup-between, control-between, stack-pointer-between, busy-between, illegal-between}
+use Rattle.decide.specs.declared.plan.Deed.{Deed}
+use Rattle.decide.specs.Target.{cellFor, isIllegal, isBusy, targetOf}
+use Rattle.decide.specs.Plan.{deedOf, entryOf, planOf}
 use Rattle.message.specs.Writes.{writesTo, deedWrites}
 use Rattle.message.specs.Reply.{replyWrites, replyWords}
 use Rattle.message.specs.Run.{State, stepValue, run, effectOf, effects}

@@ -8,23 +8,23 @@ use mathlib.Core.List.{List}
 use lib.ListN.{length}
 use lib.Dec.{eqb}
 use borrow.Author.Tests.{eqb-false, not-true}
-use Rattle.words.specs.declared.value.Record.{Record}
+use Rattle.records.specs.declared.value.Record.{Record}
 use Rattle.words.specs.declared.settings.Settings.{Settings}
 use Rattle.words.specs.Command.{transmits, subaddressOf}
 use Rattle.words.specs.Settings.{isOwn}
 use Rattle.words.proofs.Basics.{lt-or-ge, eq-or-ne, and-left, and-right}
-use Rattle.cells.specs.declared.window.Window.{Window}
-use Rattle.cells.specs.Map.{lookupPlace}
-use Rattle.cells.specs.Window.{placeOf, windowsMeet}
-use Rattle.cells.specs.Kind.{kindOf}
+use Rattle.memory.specs.declared.window.Window.{Window}
+use Rattle.memory.specs.Map.{lookupPlace}
+use Rattle.memory.specs.Window.{placeOf, windowsMeet}
+use Rattle.memory.specs.Kind.{kindOf}
 use Rattle.cells.specs.Stack.{stackWindow}
-use Rattle.cells.proofs.Flags.{or-either}
-use Rattle.cells.proofs.Wrap.{place-from, place-below}
-use Rattle.cells.proofs.Meets.{windows-swap, nothing-shared}
+use Rattle.memory.proofs.Flags.{or-either}
+use Rattle.memory.proofs.Wrap.{place-from, place-below}
+use Rattle.memory.proofs.Meets.{windows-swap, nothing-shared}
 use Rattle.cells.proofs.Sound.{FreeAddress, sound-address}
-use Rattle.cells.proofs.Places.{lookup-between, lookup-differs, ordinary-not-lookup, ordinary-not-stack-pointer}
-use Rattle.message.specs.Target.{cellFor, targetOf}
-use Rattle.message.specs.Plan.{deedOf}
+use Rattle.memory.proofs.Places.{lookup-between, lookup-differs, ordinary-not-lookup, ordinary-not-stack-pointer}
+use Rattle.decide.specs.Target.{cellFor, targetOf}
+use Rattle.decide.specs.Plan.{deedOf}
 use Rattle.message.specs.Writes.{deedWrites}
 use Rattle.message.specs.Reply.{replyWords}
 use Rattle.message.proofs.Footprint.{Avoids, Outside}

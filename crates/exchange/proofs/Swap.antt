@@ -6,15 +6,15 @@ use mathlib.Core.Logic.{_⊎_, ⊎-elim}
 use mathlib.Core.Bool.{Bool, true, false, not, _&&_}
 use mathlib.Core.List.{List}
 use lib.ListN.{getD}
-use Rattle.words.specs.declared.value.Record.{Record}
+use Rattle.records.specs.declared.value.Record.{Record}
 use Rattle.words.specs.declared.settings.Settings.{Settings}
 use Rattle.words.proofs.Basics.{eq-or-ne}
-use Rattle.cells.specs.Map.{stackPointerPlace, bitOf}
+use Rattle.memory.specs.Map.{stackPointerPlace, bitOf}
 use Rattle.cells.specs.Stack.{stackPointer, stackWindow}
-use Rattle.message.specs.declared.target.Target.{Target}
-use Rattle.message.specs.declared.plan.Deed.{Deed}
-use Rattle.message.specs.Plan.{planOf}
-use Rattle.message.specs.Report.{interruptWord}
+use Rattle.decide.specs.declared.target.Target.{Target}
+use Rattle.decide.specs.declared.plan.Deed.{Deed}
+use Rattle.decide.specs.Plan.{planOf}
+use Rattle.decide.specs.Report.{interruptWord}
 use Rattle.message.specs.Writes.{applyWrites, deedWrites, descriptorOf}
 use Rattle.message.specs.Reply.{replyWords}
 use Rattle.message.specs.Answer.{acceptedWith}

@@ -5,19 +5,19 @@ use mathlib.Core.Path.{_≡_, refl}
 use mathlib.Core.Bool.{true, false, not, _&&_}
 use lib.ListN.{length}
 use borrow.Author.Tests.{not-true, le-ltb}
-use Rattle.words.specs.declared.value.Record.{Record}
+use Rattle.records.specs.declared.value.Record.{Record}
 use Rattle.words.specs.declared.settings.Settings.{Settings}
 use Rattle.words.specs.Command.{isModeSubaddress}
 use Rattle.words.specs.Settings.{isNotOurs}
-use Rattle.words.specs.Value.{keepsLayout}
+use Rattle.records.specs.Value.{keepsLayout}
 use Rattle.words.proofs.Basics.{and-left, and-right}
 use Rattle.words.proofs.Refusals.{accepted}
 use Rattle.cells.specs.Stack.{stackWindow}
 use Rattle.cells.proofs.Sound.{cell-facts-sound}
 use Rattle.cells.proofs.Block.{stack-facts-sound}
 use Rattle.cells.proofs.Whole.{AreaFine}
-use Rattle.message.specs.Target.{cellFor, targetOf}
-use Rattle.message.specs.Plan.{planOf}
+use Rattle.decide.specs.Target.{cellFor, targetOf}
+use Rattle.decide.specs.Plan.{planOf}
 use Rattle.message.specs.Writes.{descriptorOf}
 use Rattle.message.specs.Reply.{replyWrites, replyWords}
 use Rattle.message.specs.Answer.{cellUnsound, groundsFor, refusalFor, refusalOfValue, acceptedWith, rememberedFrom, acceptedOutcome, outcomeFor, ramFor, replyFor}

@@ -7,14 +7,14 @@ use mathlib.Core.List.{List}
 use lib.ListN.{length}
 use lib.Dec.{ltb, eqb}
 use borrow.Author.Tests.{eqb-true, ltb-true, ltb-false, le-leb, lt-ltb, not-true}
-use Rattle.words.specs.declared.value.Record.{Record}
+use Rattle.records.specs.declared.value.Record.{Record}
 use Rattle.words.specs.declared.settings.Settings.{Settings}
 use Rattle.words.proofs.Basics.{and-left, and-right}
-use Rattle.cells.specs.declared.window.Window.{Window}
-use Rattle.cells.specs.Map.{stackPointerPlace}
+use Rattle.memory.specs.declared.window.Window.{Window}
+use Rattle.memory.specs.Map.{stackPointerPlace}
 use Rattle.cells.specs.Area.{checkArea}
 use Rattle.cells.specs.Stack.{stackPointer, stackWindow}
-use Rattle.cells.proofs.Places.{stack-pointer-between}
+use Rattle.memory.proofs.Places.{stack-pointer-between}
 use Rattle.cells.proofs.Whole.{area-fine}
 use Rattle.message.specs.Answer.{replyRefused}
 use Rattle.message.specs.Run.{State, run}

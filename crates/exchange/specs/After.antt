@@ -1,7 +1,7 @@
 -- What demand 3 says a run in the new order leaves, from what the messages show.
 use Prim.Native.Nat.{ℕ}
 use mathlib.Core.List.{List, map}
-use Rattle.words.specs.declared.value.Record.{Record}
+use Rattle.records.specs.declared.value.Record.{Record}
 use Rattle.words.specs.declared.settings.Settings.{Settings}
 use Rattle.words.specs.declared.settings.Remembered.{Remembered}
 use Rattle.cells.specs.Stack.{stackWindow}

@@ -3,13 +3,13 @@ use Prim.Native.Nat.{ℕ, zero, suc}
 use mathlib.Core.Bool.{Bool, true, false, not, _&&_, _||_}
 use mathlib.Core.List.{List, [], _∷_}
 use lib.Dec.{eqb}
-use Rattle.words.specs.declared.value.Record.{Record}
+use Rattle.records.specs.declared.value.Record.{Record}
 use Rattle.words.specs.declared.settings.Settings.{Settings}
 use Rattle.words.specs.Command.{transmits, isModeSubaddress}
 use Rattle.words.specs.Settings.{isNotOurs}
-use Rattle.words.specs.Value.{keepsLayout}
-use Rattle.cells.specs.Window.{windowsMeet}
-use Rattle.message.specs.Target.{targetOf}
+use Rattle.records.specs.Value.{keepsLayout}
+use Rattle.memory.specs.Window.{windowsMeet}
+use Rattle.decide.specs.Target.{targetOf}
 use Rattle.exchange.specs.Order.{swapAt}
 
 -- "well-formed data messages for this terminal": the record keeps its layout, the address is ours or broadcast, the

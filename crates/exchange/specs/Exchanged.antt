@@ -5,9 +5,9 @@ use mathlib.Core.Bool.{Bool, true, false, not, _&&_}
 use mathlib.Core.List.{List, [], _∷_, map}
 use lib.ListN.{length, getD}
 use lib.Dec.{ltb, leb, eqb}
-use Rattle.words.specs.declared.value.Record.{Record}
+use Rattle.records.specs.declared.value.Record.{Record}
 use Rattle.words.specs.declared.settings.Settings.{Settings}
-use Rattle.cells.specs.declared.window.Window.{Window}
+use Rattle.memory.specs.declared.window.Window.{Window}
 use Rattle.cells.specs.Stack.{stackPointer, stackWindow}
 use Rattle.cells.specs.Area.{checkArea}
 use Rattle.message.specs.Answer.{replyRefused}

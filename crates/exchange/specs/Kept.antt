@@ -2,7 +2,7 @@
 use Prim.Native.Nat.{ℕ, _-_, _*_, _/_, _%_}
 use mathlib.Core.List.{List, [], _∷_, _++_, map}
 use lib.ListN.{length, getD, drop}
-use Rattle.words.specs.declared.value.Record.{Record}
+use Rattle.records.specs.declared.value.Record.{Record}
 use Rattle.words.specs.declared.settings.Remembered.{Remembered}
 use Rattle.message.specs.Run.{Effect}
 

@@ -1,8 +1,10 @@
 // What demand 3 asks of a message, and of two that are neighbours.
 ghost use mathlib.Core.Path.{_≡_};
 ghost use Rattle.exchange.specs.Condition.{wellFormed, mayExchange};
-use cells::window::windows_meet;
-use message::target::target_of;
+use decide::target::target_of;
+use memory::window::windows_meet;
+use records::value::Record;
+use records::value::keeps_layout;
 use words::choose::both;
 use words::choose::either;
 use words::choose::no;
@@ -10,8 +12,6 @@ use words::command::mode_subaddress;
 use words::command::transmit;
 use words::settings::Settings;
 use words::settings::is_not_ours;
-use words::value::Record;
-use words::value::keeps_layout;
 
 // A well-formed data message for this terminal: with a sound cell and stack, and room for the reply, it is never refused.
 pub fn well_formed(s: Settings, v: Record) -> bool

@@ -10,12 +10,12 @@ use borrow.Author.Tests.{eqb-true, not-false}
 use Rattle.words.specs.declared.settings.Settings.{Settings}
 use Rattle.words.proofs.Refusals.{accepted}
 use Rattle.words.proofs.SettingsLaws.{settings-agreed}
-use Rattle.cells.specs.Map.{ramRefused}
+use Rattle.memory.specs.Map.{ramRefused}
 use Rattle.cells.proofs.Sizes.{cell-sized, window-nonempty}
 use Rattle.cells.proofs.Block.{stack-nonempty}
-use Rattle.message.specs.Target.{cellFor, targetOf}
+use Rattle.decide.specs.Target.{cellFor, targetOf}
 use Rattle.message.specs.Answer.{groundsFor, refusalFor}
-use Rattle.message.specs.Ready.{Ready}
+use Rattle.decide.specs.Ready.{Ready}
 use Rattle.message.proofs.Sure.{accepted-sure}
 
 ram-short : (n : ℕ) → ramRefused n ≡ false → n ≤ 65536

@@ -5,12 +5,12 @@ use mathlib.Core.Path.{_≡_, refl}
 use mathlib.Core.Bool.{true, false}
 use mathlib.Core.List.{List}
 use lib.ListN.{set}
-use Rattle.words.specs.declared.value.Record.{Record}
+use Rattle.records.specs.declared.value.Record.{Record}
 use Rattle.words.specs.declared.settings.Settings.{Settings}
-use Rattle.cells.specs.Map.{lookupTable, stackPointerPlace}
-use Rattle.message.specs.declared.plan.Deed.{Deed}
-use Rattle.message.specs.declared.plan.Entry.{Entry}
-use Rattle.message.specs.declared.plan.Plan.{Plan}
+use Rattle.memory.specs.Map.{lookupTable, stackPointerPlace}
+use Rattle.decide.specs.declared.plan.Deed.{Deed}
+use Rattle.decide.specs.declared.plan.Entry.{Entry}
+use Rattle.decide.specs.declared.plan.Plan.{Plan}
 use Rattle.message.specs.Writes.{applyWrites, writesTo, dataWrites, pointerWrites, descriptorOf, entryWrites, deedWrites, stackWrites, writesOf}
 use Rattle.message.specs.Reply.{sentWrites, replyWrites}
 use Rattle.message.proofs.Writes.{apply-append}

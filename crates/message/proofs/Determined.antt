@@ -2,22 +2,7 @@
 -- are equal. Each line speaks of the contract as the checker reads it (`Reads.Post`), so that none can drift from its function.
 use mathlib.Core.Path.{refl}
 use Rattle.words.proofs.Settled.{determined, Settled}
-use Rattle.message.proofs.deed
-use Rattle.message.proofs.fault
 use Rattle.message.proofs.serve
-use Rattle.message.proofs.target
-
-pub faults-of-settled : Settled 0 fault.faults_of.Kinds.ps fault.faults_of.Kinds.r fault.faults_of.Reads.Post
-faults-of-settled κs a x y v w p q = (determined p q, refl)
-
-pub any-fault-settled : Settled 0 fault.any_fault.Kinds.ps fault.any_fault.Kinds.r fault.any_fault.Reads.Post
-any-fault-settled κs a x y v w p q = (determined p q, refl)
-
-pub target-of-settled : Settled 1 target.target_of.Kinds.ps target.target_of.Kinds.r target.target_of.Reads.Post
-target-of-settled κs a x y v w p q = (determined p q, refl)
-
-pub act-of-settled : Settled 0 deed.act_of.Kinds.ps deed.act_of.Kinds.r deed.act_of.Reads.Post
-act-of-settled κs a x y v w p q = (determined p q, refl)
 
 -- the outcome, every word of RAM and every word of the reply
 pub message-from-value-settled :

@@ -3,19 +3,19 @@ use mathlib.Core.Path.{_≡_, refl}
 use mathlib.Core.List.{map}
 use Rattle.words.specs.Command.{wordCount, isModeSubaddress}
 use Rattle.words.specs.Settings.{stackSizeListed, settingsRefused, isOwn, isBroadcast, isNotOurs}
-use Rattle.words.specs.Value.{lastsZero, keepsLayout}
-use Rattle.words.specs.Layout.{fill}
+use Rattle.records.specs.Value.{lastsZero, keepsLayout}
+use Rattle.records.specs.Layout.{fill}
 use Rattle.words.specs.Refusal.{firstOf, inOrder, firstRefusal}
-use Rattle.cells.specs.Map.{ramRefused, stackPointerPlace, lookupTable, busyPlace, isBusyAt, illegalPlace, isIllegalAt}
-use Rattle.cells.specs.Kind.{cellNumber, kindOf}
-use Rattle.cells.specs.Window.{runFrom, aligned, placeOf, rollsOver, meets, meetsFixed}
+use Rattle.memory.specs.Map.{ramRefused, stackPointerPlace, lookupTable, busyPlace, isBusyAt, illegalPlace, isIllegalAt}
+use Rattle.memory.specs.Kind.{cellNumber, kindOf}
+use Rattle.memory.specs.Window.{runFrom, aligned, placeOf, rollsOver, meets, meetsFixed}
 use Rattle.cells.specs.Cell.{controlPart, pickScheme, schemeOf, cellAt, windowOf, doubleFits, soundCell}
 use Rattle.cells.specs.Stack.{stackPointer, stackWindow, stackSound}
-use Rattle.message.specs.Fault.{expectedWords, faultsOf, faultsFor, anyFault}
-use Rattle.message.specs.Target.{cellFor, isIllegal, isBusy, targetOf}
-use Rattle.message.specs.Deed.{withheld, wordsStored, wordsSent, actWith, actOf, mayMove, stride, moves, motionWith, motionOf}
-use Rattle.message.specs.Report.{blockStatus, statusWord, reportOf, interruptWord}
-use Rattle.message.specs.Plan.{deedOf, entryOf, planOf}
+use Rattle.decide.specs.Fault.{expectedWords, faultsOf, faultsFor, anyFault}
+use Rattle.decide.specs.Target.{cellFor, isIllegal, isBusy, targetOf}
+use Rattle.decide.specs.Deed.{withheld, wordsStored, wordsSent, actWith, actOf, mayMove, stride, moves, motionWith, motionOf}
+use Rattle.decide.specs.Report.{blockStatus, statusWord, reportOf, interruptWord}
+use Rattle.decide.specs.Plan.{deedOf, entryOf, planOf}
 use Rattle.message.specs.Writes.{applyWrites, writesTo, pointerWrites, descriptorOf, entryWrites, deedWrites, stackWrites, writesOf}
 use Rattle.message.specs.Reply.{replyWrites, replyWords}
 use Rattle.message.specs.Answer.{cellUnsound, groundsFor, refusalFor, refusedWith, acceptedWith, rememberedFrom, acceptedOutcome, outcomeFor}

@@ -8,15 +8,15 @@ use mathlib.Core.List.{List}
 use lib.ListN.{length}
 use lib.Dec.{eqb}
 use borrow.Author.Tests.{eq-eqb, ne-eqb, eqb-true, not-false}
-use Rattle.words.specs.declared.value.Record.{Record}
-use Rattle.words.specs.declared.reader.Reading.{Reading}
+use Rattle.records.specs.declared.value.Record.{Record}
+use Rattle.records.specs.declared.reader.Reading.{Reading}
 use Rattle.words.specs.declared.settings.Settings.{Settings}
 use Rattle.words.specs.declared.settings.Remembered.{Remembered}
-use Rattle.words.specs.Value.{zeroValue}
-use Rattle.words.specs.Layout.{wrongLength, valueIn, breaksLayout, readRecord, notRead}
+use Rattle.records.specs.Value.{zeroValue}
+use Rattle.records.specs.Layout.{wrongLength, valueIn, breaksLayout, readRecord, notRead}
 use Rattle.words.specs.Refusal.{firstOf, inOrder, firstRefusal}
 use Rattle.words.proofs.Basics.{yes-or-no, eq-or-ne}
-use Rattle.words.proofs.Cases.{read-length, read-layout, read-good}
+use Rattle.records.proofs.Cases.{read-length, read-layout, read-good}
 use Rattle.words.proofs.Refusals.{accepted}
 use Rattle.message.specs.declared.answer.Outcome.{Outcome}
 use Rattle.message.specs.Answer.{groundsFor, refusalFor, refusalOfBytes, outcomeFor, ramFor, replyFor}

@@ -8,30 +8,30 @@ use mathlib.Core.Bool.{Bool}
 use mathlib.Core.List.{List}
 use lib.ListN.{length, getD}
 use borrow.Author.Tests.{lt-ltb, le-ltb}
-use Rattle.words.specs.declared.value.Record.{Record}
+use Rattle.records.specs.declared.value.Record.{Record}
 use Rattle.words.specs.declared.settings.Settings.{Settings}
 use Rattle.words.specs.Command.{subaddressOf}
 use Rattle.words.proofs.Basics.{lt-or-ge, eq-or-ne}
-use Rattle.cells.specs.declared.kind.Kind.{Kind}
+use Rattle.memory.specs.declared.kind.Kind.{Kind}
 use Rattle.cells.specs.declared.cell.Cell.{Cell}
-use Rattle.cells.specs.declared.window.Window.{Window}
+use Rattle.memory.specs.declared.window.Window.{Window}
 use Rattle.cells.specs.declared.cell.Scheme.the-variants.{Double}
-use Rattle.cells.specs.Map.{lookupPlace, controlPlace, busyPlace, illegalPlace}
-use Rattle.cells.specs.Kind.{kindNumbered, cellNumber, kindOf}
+use Rattle.memory.specs.Map.{lookupPlace, controlPlace, busyPlace, illegalPlace}
+use Rattle.memory.specs.Kind.{kindNumbered, cellNumber, kindOf}
 use Rattle.cells.specs.Cell.{cellAt, cellWindow}
 use Rattle.cells.specs.Stack.{stackWindow}
 use Rattle.cells.specs.Area.{cellNumbered}
-use Rattle.cells.proofs.Wrap.{SameRun}
+use Rattle.memory.proofs.Wrap.{SameRun}
 use Rattle.cells.proofs.Sound.{CellSound, sound-block}
 use Rattle.cells.proofs.Block.{StackSound, stack-moved-same, stack-moved}
 use Rattle.cells.proofs.Listed.{read-listed, number-below, number-differs}
-use Rattle.cells.proofs.Places.{lookup-between, control-between, stack-pointer-between, busy-between, illegal-between, lookup-differs, lookup-not-control, lookup-not-stack-pointer, control-not-stack-pointer}
+use Rattle.memory.proofs.Places.{lookup-between, control-between, stack-pointer-between, busy-between, illegal-between, lookup-differs, lookup-not-control, lookup-not-stack-pointer, control-not-stack-pointer}
 use Rattle.cells.proofs.Whole.{AreaFine, SoundAt}
-use Rattle.message.specs.Target.{cellFor, targetOf}
-use Rattle.message.specs.Deed.{actOf, motionOf, moves}
-use Rattle.message.specs.Plan.{deedOf}
+use Rattle.decide.specs.Target.{cellFor, targetOf}
+use Rattle.decide.specs.Deed.{actOf, motionOf, moves}
+use Rattle.decide.specs.Plan.{deedOf}
 use Rattle.message.proofs.Sure.{Sure}
-use Rattle.message.proofs.Motion.{single-stays, Contained, motion-contained}
+use Rattle.decide.proofs.Motion.{single-stays, Contained, motion-contained}
 use Rattle.message.proofs.Step.{afterMessage, deedFor, after-length, cell-low, target-sized, tables-stay, illegal-stay, stack-moves, lookup-after}
 
 -- what one RAM keeps of another

@@ -2,11 +2,9 @@ pub mod Writes
 pub mod Footprint
 pub mod Sure
 pub mod Step
-pub mod Motion
 pub mod Kept
 pub mod Replied
 pub mod Only
-pub mod Reach
 pub mod Carried
 pub mod Accepted
 pub mod FromBytes

@@ -9,16 +9,16 @@ use mathlib.Core.List.{List}
 use lib.ListN.{length, getD}
 use lib.Dec.{eqb}
 use borrow.Author.Tests.{eqb-true, ltb-false}
-use Rattle.words.specs.declared.value.Record.{Record}
+use Rattle.records.specs.declared.value.Record.{Record}
 use Rattle.words.specs.declared.settings.Settings.{Settings}
-use Rattle.words.specs.Layout.{wrongLength, breaksLayout, valueIn}
-use Rattle.words.specs.Value.{keepsLayout}
+use Rattle.records.specs.Layout.{wrongLength, breaksLayout, valueIn}
+use Rattle.records.specs.Value.{keepsLayout}
 use Rattle.words.proofs.Basics.{yes-or-no}
 use Rattle.words.proofs.Refusals.{accepted}
-use Rattle.cells.specs.Map.{lookupPlace, stackPointerPlace}
+use Rattle.memory.specs.Map.{lookupPlace, stackPointerPlace}
 use Rattle.cells.specs.Stack.{stackWindow}
-use Rattle.message.specs.Target.{targetOf}
-use Rattle.message.specs.Plan.{planOf}
+use Rattle.decide.specs.Target.{targetOf}
+use Rattle.decide.specs.Plan.{planOf}
 use Rattle.message.specs.Reply.{replyWords}
 use Rattle.message.specs.Answer.{groundsFor, refusalFor, ramFor, replyFor}
 use Rattle.message.specs.Message.{ramAfterValue, replyAfterValue, ramAfterBytes, replyAfterBytes}

@@ -7,16 +7,16 @@ use mathlib.Core.Bool.{true, false, not, _&&_}
 use mathlib.Core.List.{List, [], _∷_, _++_, map, append-assoc}
 use lib.ListN.{length, getD, set, take, drop, length-set, length-append, length-map, take-append-drop}
 use lib.Seq.{take-suc-set, drop-set-lt, getD-append-add, getD-drop}
-use Rattle.words.specs.declared.value.Record.{Record}
+use Rattle.records.specs.declared.value.Record.{Record}
 use Rattle.words.specs.declared.settings.Settings.{Settings}
 use Rattle.words.specs.Command.{transmits}
 use Rattle.words.proofs.Basics.{yes-or-no}
 use Rattle.words.proofs.Commands.{word-count-to}
-use Rattle.cells.specs.Window.{placeOf}
-use Rattle.message.specs.declared.plan.Deed.{Deed}
-use Rattle.message.specs.declared.target.Target.{Target}
-use Rattle.message.specs.Deed.{wordsSent, actWith, actOf}
-use Rattle.message.specs.Plan.{deedOf}
+use Rattle.memory.specs.Window.{placeOf}
+use Rattle.decide.specs.declared.plan.Deed.{Deed}
+use Rattle.decide.specs.declared.target.Target.{Target}
+use Rattle.decide.specs.Deed.{wordsSent, actWith, actOf}
+use Rattle.decide.specs.Plan.{deedOf}
 use Rattle.message.specs.Writes.{Write, applyWrites, writesTo}
 use Rattle.message.specs.Reply.{replyWrites, replyWords}
 

@@ -13,13 +13,13 @@ use Rattle.words.specs.Command.{isModeSubaddress}
 use Rattle.words.specs.Settings.{settingsRefused}
 use Rattle.words.proofs.Commands.{data-subaddress}
 use Rattle.words.proofs.Refusals.{accepted}
-use Rattle.cells.specs.Map.{ramRefused}
+use Rattle.memory.specs.Map.{ramRefused}
 use Rattle.cells.specs.Cell.{soundCell}
 use Rattle.cells.specs.Stack.{stackWindow, stackSound}
 use Rattle.cells.proofs.Sound.{CellSound, sound-cell-facts}
 use Rattle.cells.proofs.Block.{StackSound, stack-sound-facts}
 use Rattle.cells.proofs.Whole.{AreaFine, fine-command}
-use Rattle.message.specs.Target.{cellFor}
+use Rattle.decide.specs.Target.{cellFor}
 use Rattle.message.specs.Answer.{cellUnsound, groundsFor, refusalFor}
 
 pub record Sure (ram : List ℕ) (s : Settings) (command : ℕ) : Type 0 where

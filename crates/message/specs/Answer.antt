@@ -4,24 +4,24 @@ use mathlib.Core.Bool.{Bool, true, false, not, cond}
 use mathlib.Core.List.{List}
 use lib.ListN.{length}
 use lib.Dec.{ltb, eqb}
-use Rattle.words.specs.declared.value.Record.{Record}
+use Rattle.records.specs.declared.value.Record.{Record}
 use Rattle.words.specs.declared.settings.Settings.{Settings}
 use Rattle.words.specs.declared.settings.Remembered.{Remembered}
 use Rattle.words.specs.declared.refusal.Grounds.{Grounds}
 use Rattle.words.specs.Command.{isModeSubaddress}
 use Rattle.words.specs.Settings.{settingsRefused, isNotOurs}
-use Rattle.words.specs.Value.{keepsLayout}
-use Rattle.words.specs.Layout.{wrongLength, breaksLayout, valueIn}
+use Rattle.records.specs.Value.{keepsLayout}
+use Rattle.records.specs.Layout.{wrongLength, breaksLayout, valueIn}
 use Rattle.words.specs.Refusal.{firstRefusal}
-use Rattle.cells.specs.Map.{ramRefused}
+use Rattle.memory.specs.Map.{ramRefused}
 use Rattle.cells.specs.Cell.{soundCell}
 use Rattle.cells.specs.Stack.{stackWindow, stackSound}
-use Rattle.message.specs.declared.plan.Plan.{Plan}
+use Rattle.decide.specs.declared.plan.Plan.{Plan}
 use Rattle.message.specs.declared.answer.Answer.{Answer}
 use Rattle.message.specs.declared.answer.Outcome.{Outcome}
-use Rattle.message.specs.Target.{cellFor}
-use Rattle.message.specs.Plan.{planOf}
-use Rattle.message.specs.Report.{interruptWord}
+use Rattle.decide.specs.Target.{cellFor}
+use Rattle.decide.specs.Plan.{planOf}
+use Rattle.decide.specs.Report.{interruptWord}
 use Rattle.message.specs.Writes.{applyWrites, writesOf}
 use Rattle.message.specs.Reply.{replyWrites}
 

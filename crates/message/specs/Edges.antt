@@ -3,19 +3,19 @@ use Prim.Native.Nat.{ℕ, _+_, _%_}
 use mathlib.Core.Bool.{Bool, true, false}
 use mathlib.Core.List.{List, [], _∷_, _++_}
 use lib.ListN.{replicate}
-use Rattle.words.specs.declared.value.Record.{Record}
+use Rattle.records.specs.declared.value.Record.{Record}
 use Rattle.words.specs.declared.settings.Settings.{Settings}
 use Rattle.words.specs.declared.settings.Remembered.{Remembered}
 use Rattle.words.specs.declared.settings.Area.the-variants.{A}
 use Rattle.words.specs.Command.{subaddressOf, countField}
 use Rattle.words.specs.Settings.{nothingRemembered, isOwn}
-use Rattle.words.specs.Value.{zeroWords}
-use Rattle.words.specs.Layout.{fill}
-use Rattle.cells.specs.Map.{illegalPlace, busyPlace}
+use Rattle.records.specs.Value.{zeroWords}
+use Rattle.records.specs.Layout.{fill}
+use Rattle.memory.specs.Map.{illegalPlace, busyPlace}
 use Rattle.message.specs.declared.answer.Answer.{Answer}
 use Rattle.message.specs.declared.answer.Outcome.{Outcome}
-use Rattle.message.specs.Fault.{expectedWords}
-use Rattle.message.specs.Plan.{planOf}
+use Rattle.decide.specs.Fault.{expectedWords}
+use Rattle.decide.specs.Plan.{planOf}
 use Rattle.message.specs.Writes.{Write, applyWrites, writesTo, writesOf}
 use Rattle.message.specs.Reply.{replyWords}
 use Rattle.message.specs.Message.{outcomeOfValue}

@@ -1,13 +1,7 @@
-pub mod Fault
-pub mod Target
-pub mod Deed
-pub mod Report
-pub mod Plan
 pub mod Writes
 pub mod Reply
 pub mod Answer
 pub mod Message
-pub mod Ready
 pub mod Run
 pub mod Tests
 pub mod Edges

@@ -2,10 +2,10 @@
 use Prim.Native.Nat.{ℕ}
 use mathlib.Core.List.{List}
 use lib.ListN.{length}
-use Rattle.words.specs.declared.value.Record.{Record}
+use Rattle.records.specs.declared.value.Record.{Record}
 use Rattle.words.specs.declared.settings.Settings.{Settings}
 use Rattle.words.specs.declared.settings.Remembered.{Remembered}
-use Rattle.words.specs.Layout.{valueIn}
+use Rattle.records.specs.Layout.{valueIn}
 use Rattle.message.specs.declared.answer.Outcome.{Outcome}
 use Rattle.message.specs.Answer.{refusalOfValue, refusalOfBytes, outcomeFor, ramFor, replyFor}
 

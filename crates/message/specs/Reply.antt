@@ -3,9 +3,9 @@ use Prim.Native.Nat.{ℕ, zero, suc, _+_}
 use mathlib.Core.Bool.{Bool, cond}
 use mathlib.Core.List.{List, [], _∷_, map}
 use lib.ListN.{getD}
-use Rattle.cells.specs.declared.window.Window.{Window}
-use Rattle.cells.specs.Window.{placeOf}
-use Rattle.message.specs.declared.plan.Deed.{Deed}
+use Rattle.memory.specs.declared.window.Window.{Window}
+use Rattle.memory.specs.Window.{placeOf}
+use Rattle.decide.specs.declared.plan.Deed.{Deed}
 use Rattle.message.specs.Writes.{Write, writesTo, applyWrites}
 
 -- rule 4: the data words, "read the same way", from place 1 of the reply on

@@ -4,11 +4,11 @@ use mathlib.Core.Bool.{cond}
 use mathlib.Core.List.{List, [], _∷_}
 use lib.ListN.{length}
 use lib.Dec.{eqb}
-use Rattle.words.specs.declared.value.Record.{Record}
+use Rattle.records.specs.declared.value.Record.{Record}
 use Rattle.words.specs.declared.settings.Settings.{Settings}
 use Rattle.words.specs.declared.settings.Remembered.{Remembered}
 use Rattle.message.specs.declared.answer.Answer.{Answer}
-use Rattle.message.specs.Plan.{planOf}
+use Rattle.decide.specs.Plan.{planOf}
 use Rattle.message.specs.Writes.{descriptorOf}
 use Rattle.message.specs.Reply.{replyWords}
 use Rattle.message.specs.Answer.{refusalOfValue}

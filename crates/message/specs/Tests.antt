@@ -3,14 +3,14 @@ use Prim.Native.Nat.{ℕ}
 use mathlib.Core.Bool.{Bool, not}
 use mathlib.Core.List.{List, [], _∷_}
 use lib.ListN.{length}
-use Rattle.words.specs.declared.value.Record.{Record}
+use Rattle.records.specs.declared.value.Record.{Record}
 use Rattle.words.specs.declared.settings.Settings.{Settings}
 use Rattle.words.specs.Command.{isModeSubaddress}
 use Rattle.words.specs.Settings.{settingsRefused, isNotOurs}
-use Rattle.words.specs.Value.{keepsLayout}
-use Rattle.words.specs.Layout.{wrongLength, breaksLayout, valueIn}
+use Rattle.records.specs.Value.{keepsLayout}
+use Rattle.records.specs.Layout.{wrongLength, breaksLayout, valueIn}
 use Rattle.words.specs.Refusal.{Test}
-use Rattle.cells.specs.Map.{ramRefused}
+use Rattle.memory.specs.Map.{ramRefused}
 use Rattle.cells.specs.Stack.{stackSound}
 use Rattle.message.specs.Answer.{replyRefused, cellUnsound}
 

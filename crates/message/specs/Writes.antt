@@ -3,14 +3,14 @@ use Prim.Native.Nat.{ℕ, zero, suc, _+_}
 use mathlib.Core.Bool.{Bool, cond}
 use mathlib.Core.List.{List, [], _∷_, _++_}
 use lib.ListN.{getD, set}
-use Rattle.words.specs.declared.value.Record.{Record}
+use Rattle.records.specs.declared.value.Record.{Record}
 use Rattle.words.specs.declared.settings.Settings.{Settings}
-use Rattle.cells.specs.declared.window.Window.{Window}
-use Rattle.cells.specs.Map.{lookupPlace, stackPointerPlace}
-use Rattle.cells.specs.Window.{placeOf}
-use Rattle.message.specs.declared.plan.Deed.{Deed}
-use Rattle.message.specs.declared.plan.Entry.{Entry}
-use Rattle.message.specs.declared.plan.Plan.{Plan}
+use Rattle.memory.specs.declared.window.Window.{Window}
+use Rattle.memory.specs.Map.{lookupPlace, stackPointerPlace}
+use Rattle.memory.specs.Window.{placeOf}
+use Rattle.decide.specs.declared.plan.Deed.{Deed}
+use Rattle.decide.specs.declared.plan.Entry.{Entry}
+use Rattle.decide.specs.declared.plan.Plan.{Plan}
 
 -- a word put at a place
 pub record Write : Type 0 where

@@ -2,13 +2,14 @@
 ghost use mathlib.Core.Path.{_≡_};
 ghost use lib.ListN.{length};
 ghost use Rattle.message.specs.Answer.{cellUnsound, refusalFor, refusedWith, acceptedWith, acceptedOutcome, rememberedFrom};
-use crate::plan::Plan;
-use crate::report::interrupt_word;
-use crate::target::cell_for;
 use cells::cell::sound_cell;
-use cells::map::ram_refused;
 use cells::stack::stack_sound;
 use cells::stack::stack_window;
+use decide::plan::Plan;
+use decide::report::interrupt_word;
+use decide::target::cell_for;
+use memory::map::ram_refused;
+use records::value::Record;
 use words::choose::no;
 use words::command::mode_subaddress;
 use words::refusal::Grounds;
@@ -17,7 +18,6 @@ use words::settings::Remembered;
 use words::settings::Settings;
 use words::settings::is_not_ours;
 use words::settings::settings_refused;
-use words::value::Record;
 
 pub struct Answer {
     pub number: u16,

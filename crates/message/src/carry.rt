@@ -2,16 +2,16 @@
 ghost use mathlib.Core.Path.{_≡_};
 ghost use Prim.Native.Nat.{_≤_};
 ghost use Rattle.message.specs.Writes.{applyWrites, dataWrites, pointerWrites, descriptorOf, entryWrites, writesOf};
-use crate::plan::Deed;
-use crate::plan::Entry;
-use crate::plan::Plan;
-use cells::map::lookup_table;
-use cells::map::stack_pointer_place;
-use cells::ram::put;
-use cells::window::Window;
-use cells::window::place;
+use decide::plan::Deed;
+use decide::plan::Entry;
+use decide::plan::Plan;
+use memory::map::lookup_table;
+use memory::map::stack_pointer_place;
+use memory::ram::put;
+use memory::window::Window;
+use memory::window::place;
+use records::value::Record;
 use words::settings::Settings;
-use words::value::Record;
 
 // The stored words, from the pointer on, wrapping inside the window.
 fn store_words(ram: &mut [u16], w: Window, words: [u16; 32], n: u16)

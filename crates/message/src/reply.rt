@@ -3,11 +3,11 @@ ghost use mathlib.Core.Path.{_≡_};
 ghost use Prim.Native.Nat.{_≤_};
 ghost use Rattle.message.specs.Writes.{applyWrites};
 ghost use Rattle.message.specs.Reply.{sentWrites, replyWrites};
-use crate::plan::Deed;
-use cells::ram::put;
-use cells::ram::word_at;
-use cells::window::Window;
-use cells::window::place;
+use decide::plan::Deed;
+use memory::ram::put;
+use memory::ram::word_at;
+use memory::window::Window;
+use memory::window::place;
 
 fn send_words(ram: &[u16], reply: &mut [u16], w: Window, n: u16)
     ensures { λ r. ⌜ now (reply .exit) ≡ applyWrites (sentWrites (now (ram .entry)) w n) (now (reply .entry)) ⌝ }

@@ -1,8 +1,8 @@
 // One message: the entry points.
 ghost use mathlib.Core.Path.{_≡_};
 ghost use lib.ListN.{length};
-ghost use Rattle.message.specs.Ready.{Ready};
-ghost use Rattle.message.specs.Plan.{planOf};
+ghost use Rattle.decide.specs.Ready.{Ready};
+ghost use Rattle.decide.specs.Plan.{planOf};
 ghost use Rattle.message.specs.Writes.{applyWrites, writesOf};
 ghost use Rattle.message.specs.Reply.{replyWrites};
 ghost use Rattle.message.specs.Answer.{refusalFor, acceptedOutcome, outcomeFor, ramFor, replyFor};
@@ -12,14 +12,14 @@ use crate::answer::accepted_outcome;
 use crate::answer::refusal_for;
 use crate::answer::refused_with;
 use crate::carry::carry_out;
-use crate::plan::plan_of;
 use crate::reply::send;
+use decide::plan::plan_of;
+use records::reader;
+use records::value::Record;
+use records::value::keeps_layout;
 use words::choose::no;
-use words::reader;
 use words::settings::Remembered;
 use words::settings::Settings;
-use words::value::Record;
-use words::value::keeps_layout;
 
 // An accepted message: decided, then carried out.
 fn accept(ram: &mut [u16], reply: &mut [u16], s: Settings, v: Record) -> Outcome

@@ -6,8 +6,8 @@ use mathlib.Core.Bool.{true}
 use mathlib.Core.List.{List}
 use lib.ListN.{length, take, drop}
 use borrow.Author.Tests.{le-leb, lt-leb}
-use Rattle.words.specs.declared.reader.Reading.{Reading}
-use Rattle.words.specs.Layout.{readRecord}
+use Rattle.records.specs.declared.reader.Reading.{Reading}
+use Rattle.records.specs.Layout.{readRecord}
 use Rattle.trace.specs.declared.view.Taken.{Taken}
 use Rattle.trace.specs.View.{noneAt, takenAt}
 

@@ -8,7 +8,7 @@ use lib.Dec.{ltb}
 use Rattle.words.specs.declared.settings.Settings.{Settings}
 use Rattle.words.specs.declared.settings.Area.the-variants.{A}
 use Rattle.words.specs.Settings.{nothingRemembered}
-use Rattle.words.specs.Layout.{fill, wordAt}
+use Rattle.records.specs.Layout.{fill, wordAt}
 use Rattle.trace.specs.Line.{tailLine, endLine, imageLine}
 use Rattle.trace.specs.Walk.{Walk, walkStart, walkAll, anew}
 

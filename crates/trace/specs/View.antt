@@ -5,7 +5,7 @@ use mathlib.Core.Bool.{Bool, true, false, cond}
 use mathlib.Core.List.{List}
 use lib.ListN.{length, take, drop}
 use lib.Dec.{leb}
-use Rattle.words.specs.Layout.{readRecord, notRead}
+use Rattle.records.specs.Layout.{readRecord, notRead}
 use Rattle.trace.specs.declared.view.Taken.{Taken}
 
 -- the 80 bytes at the place are there: false also where the place lies beyond the end

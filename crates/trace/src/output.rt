@@ -2,7 +2,7 @@
 ghost use mathlib.Core.Path.{_≡_};
 ghost use Prim.Native.Nat.{_+_, _*_, _<_, _^_};
 ghost use lib.ListN.{length, getD};
-ghost use Rattle.words.specs.Layout.{wordAt};
+ghost use Rattle.records.specs.Layout.{wordAt};
 ghost use Rattle.trace.specs.Text.{Put};
 ghost use Rattle.trace.specs.Line.{imageLine};
 ghost use Rattle.trace.specs.Output.{programSettings, imageInto, lastLines};

@@ -2,9 +2,9 @@
 // slice and the number, since a struct that holds a reference is proved by hand.
 ghost use mathlib.Core.Path.{_≡_};
 ghost use Rattle.trace.specs.View.{noneAt, takenAt};
-use words::reader::Reading;
-use words::reader::read;
-use words::value::zero_value;
+use records::reader::Reading;
+use records::reader::read;
+use records::value::zero_value;
 
 pub struct View<'a> {
     pub trace: &'a [u8],

@@ -4,12 +4,8 @@ use mathlib.Core.Path.{refl}
 use Rattle.words.proofs.Settled.{determined, Settled}
 use Rattle.words.proofs.choose
 use Rattle.words.proofs.command
-use Rattle.words.proofs.reader
 use Rattle.words.proofs.refusal
-use Rattle.words.proofs.round_trip
 use Rattle.words.proofs.settings
-use Rattle.words.proofs.value
-use Rattle.words.proofs.writer
 
 pub both-settled : Settled 0 choose.both.Kinds.ps choose.both.Kinds.r choose.both.Reads.Post
 both-settled κs a x y v w p q = (determined p q, refl)
@@ -41,17 +37,8 @@ word-count-settled κs a x y v w p q = (determined p q, refl)
 pub mode-subaddress-settled : Settled 0 command.mode_subaddress.Kinds.ps command.mode_subaddress.Kinds.r command.mode_subaddress.Reads.Post
 mode-subaddress-settled κs a x y v w p q = (determined p q, refl)
 
-pub read-settled : Settled 1 reader.read.Kinds.ps reader.read.Kinds.r reader.read.Reads.Post
-read-settled κs a x y v w p q = (determined p q, refl)
-
 pub first-refusal-settled : Settled 0 refusal.first_refusal.Kinds.ps refusal.first_refusal.Kinds.r refusal.first_refusal.Reads.Post
 first-refusal-settled κs a x y v w p q = (determined p q, refl)
-
-pub read-written-settled : Settled 0 round_trip.read_written.Kinds.ps round_trip.read_written.Kinds.r round_trip.read_written.Reads.Post
-read-written-settled κs a x y v w p q = (determined p q, refl)
-
-pub write-read-settled : Settled 1 round_trip.write_read.Kinds.ps round_trip.write_read.Kinds.r round_trip.write_read.Reads.Post
-write-read-settled κs a x y v w p q = (determined p q, refl)
 
 pub nothing-remembered-settled : Settled 0 settings.nothing_remembered.Kinds.ps settings.nothing_remembered.Kinds.r settings.nothing_remembered.Reads.Post
 nothing-remembered-settled κs a x y v w p q = (determined p q, refl)
@@ -67,21 +54,3 @@ is-broadcast-settled κs a x y v w p q = (determined p q, refl)
 
 pub is-not-ours-settled : Settled 0 settings.is_not_ours.Kinds.ps settings.is_not_ours.Kinds.r settings.is_not_ours.Reads.Post
 is-not-ours-settled κs a x y v w p q = (determined p q, refl)
-
-pub zero-value-settled : Settled 0 value.zero_value.Kinds.ps value.zero_value.Kinds.r value.zero_value.Reads.Post
-zero-value-settled κs a x y v w p q = (determined p q, refl)
-
-pub bus-b-settled : Settled 0 value.bus_b.Kinds.ps value.bus_b.Kinds.r value.bus_b.Reads.Post
-bus-b-settled κs a x y v w p q = (determined p q, refl)
-
-pub wrong-sync-settled : Settled 0 value.wrong_sync.Kinds.ps value.wrong_sync.Kinds.r value.wrong_sync.Reads.Post
-wrong-sync-settled κs a x y v w p q = (determined p q, refl)
-
-pub invalid-word-settled : Settled 0 value.invalid_word.Kinds.ps value.invalid_word.Kinds.r value.invalid_word.Reads.Post
-invalid-word-settled κs a x y v w p q = (determined p q, refl)
-
-pub keeps-layout-settled : Settled 0 value.keeps_layout.Kinds.ps value.keeps_layout.Kinds.r value.keeps_layout.Reads.Post
-keeps-layout-settled κs a x y v w p q = (determined p q, refl)
-
-pub write-settled : Settled 0 writer.write.Kinds.ps writer.write.Kinds.r writer.write.Reads.Post
-write-settled κs a x y v w p q = (determined p q, refl)

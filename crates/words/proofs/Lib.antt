@@ -1,9 +1,4 @@
 pub mod Basics
-pub mod Turns
-pub mod Cases
-pub mod Places
-pub mod Inverse
-pub mod Trips
 pub mod Refusals
 pub mod Commands
 pub mod SettingsLaws

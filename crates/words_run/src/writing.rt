@@ -1,8 +1,8 @@
 // The writer, and both round trips.
 ghost use Prim.Native.Nat.{_≤_};
 use crate::show;
-use words::value::Record;
-use words::writer::Written;
+use records::value::Record;
+use records::writer::Written;
 
 fn value(flags: u8, count: u8, first: u16, last: u16) -> Record {
     let mut words = [0u16; 32];
@@ -39,10 +39,10 @@ fn one(name: &[u8], flags: u8, count: u8, first: u16, last: u16) {
     show::text(name);
     show::text(b":");
     let v = value(flags, count, first, last);
-    written(words::writer::write(v));
+    written(records::writer::write(v));
     show::text(b"  read back:");
     let u = value(flags, count, first, last);
-    let r = words::round_trip::read_written(u);
+    let r = records::round_trip::read_written(u);
     show::number(r.number);
     let x = r.value;
     show::word(x.command);
@@ -53,9 +53,9 @@ fn one(name: &[u8], flags: u8, count: u8, first: u16, last: u16) {
     show::word(w[0]);
     show::word(w[31]);
     let y = r.value;
-    show::yes(words::value::bus_b(y));
-    show::yes(words::value::wrong_sync(y));
-    show::yes(words::value::invalid_word(y));
+    show::yes(records::value::bus_b(y));
+    show::yes(records::value::wrong_sync(y));
+    show::yes(records::value::invalid_word(y));
     show::end();
 }
 
@@ -69,7 +69,7 @@ fn back(name: &[u8], n: usize, count: u8, last: u8)
     let mut s = [0u8; 81];
     s[7] = count;
     s[79] = last;
-    written(words::round_trip::write_read(&s[..n]));
+    written(records::round_trip::write_read(&s[..n]));
 }
 
 pub fn all() {

@@ -1,8 +1,8 @@
 -- `cell_at` meets its contract: each field from its word.
 use native.Mathlib.Omega.{arith}
 use borrow.Author.Needs.{needs}
-use Rattle.cells.proofs.Places.{table-low, kind-low}
-use Rattle.cells.specs.Kind.{cellNumber}
+use Rattle.memory.proofs.Places.{table-low, kind-low}
+use Rattle.memory.specs.Kind.{cellNumber}
 use Rattle.cells.specs.Cell.{cellAt}
 use Rattle.cells.proofs.cell.cell_at.Statement.{statement}
 use Rattle.cells.proofs.cell.cell_at.Tie as tie

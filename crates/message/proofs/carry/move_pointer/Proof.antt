@@ -1,7 +1,7 @@
 -- `move_pointer` meets its contract: one write, or none.
 use borrow.Author.Needs.{needs}
 use native.Mathlib.Omega.{arith}
-use Rattle.cells.proofs.Places.{table-low}
+use Rattle.memory.proofs.Places.{table-low}
 use Rattle.message.proofs.Carried.{pointer-moved, pointer-kept}
 use Rattle.message.proofs.carry.move_pointer.Statement.{statement}
 use Rattle.message.proofs.carry.move_pointer.Tie as tie

@@ -1,6 +1,6 @@
 -- `accept` meets its contract: the plan's answer, its writes and its reply.
 use borrow.Author.Needs.{needs}
-use Rattle.message.proofs.Reach.{plan-stored}
+use Rattle.decide.proofs.Reach.{plan-stored}
 use Rattle.message.proofs.serve.accept.Statement.{statement}
 use Rattle.message.proofs.serve.accept.Tie as tie
 

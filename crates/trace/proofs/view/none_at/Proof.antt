@@ -1,6 +1,6 @@
 -- `none_at` meets its contract.
 use borrow.Author.Needs.{needs}
-use Rattle.words.specs.Layout.{notRead}
+use Rattle.records.specs.Layout.{notRead}
 use Rattle.trace.specs.View.{noneAt}
 use Rattle.trace.proofs.view.none_at.Statement.{statement}
 use Rattle.trace.proofs.view.none_at.Tie as tie

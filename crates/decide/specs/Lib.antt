@@ -1,0 +1,6 @@
+pub mod Fault
+pub mod Target
+pub mod Deed
+pub mod Report
+pub mod Plan
+pub mod Ready

@@ -1,0 +1,65 @@
+-- The inputs determine the answer and every lent word: for each public function, any two results that its contract allows
+-- are equal. Each line speaks of the contract as the checker reads it (`Reads.Post`), so that none can drift from its function.
+use mathlib.Core.Path.{refl}
+use Rattle.words.proofs.Settled.{determined, Settled}
+use Rattle.memory.proofs.kind
+use Rattle.memory.proofs.map
+use Rattle.memory.proofs.ram
+use Rattle.memory.proofs.window
+
+pub kind-number-settled : Settled 0 kind.kind_number.Kinds.ps kind.kind_number.Kinds.r kind.kind_number.Reads.Post
+kind-number-settled κs a x y v w p q = (determined p q, refl)
+
+pub cell-number-settled : Settled 0 kind.cell_number.Kinds.ps kind.cell_number.Kinds.r kind.cell_number.Reads.Post
+cell-number-settled κs a x y v w p q = (determined p q, refl)
+
+pub kind-of-settled : Settled 0 kind.kind_of.Kinds.ps kind.kind_of.Kinds.r kind.kind_of.Reads.Post
+kind-of-settled κs a x y v w p q = (determined p q, refl)
+
+pub kind-numbered-settled : Settled 0 kind.kind_numbered.Kinds.ps kind.kind_numbered.Kinds.r kind.kind_numbered.Reads.Post
+kind-numbered-settled κs a x y v w p q = (determined p q, refl)
+
+pub ram-refused-settled : Settled 0 map.ram_refused.Kinds.ps map.ram_refused.Kinds.r map.ram_refused.Reads.Post
+ram-refused-settled κs a x y v w p q = (determined p q, refl)
+
+pub stack-pointer-place-settled : Settled 0 map.stack_pointer_place.Kinds.ps map.stack_pointer_place.Kinds.r map.stack_pointer_place.Reads.Post
+stack-pointer-place-settled κs a x y v w p q = (determined p q, refl)
+
+pub lookup-table-settled : Settled 0 map.lookup_table.Kinds.ps map.lookup_table.Kinds.r map.lookup_table.Reads.Post
+lookup-table-settled κs a x y v w p q = (determined p q, refl)
+
+pub control-place-settled : Settled 0 map.control_place.Kinds.ps map.control_place.Kinds.r map.control_place.Reads.Post
+control-place-settled κs a x y v w p q = (determined p q, refl)
+
+pub is-busy-at-settled : Settled 1 map.is_busy_at.Kinds.ps map.is_busy_at.Kinds.r map.is_busy_at.Reads.Post
+is-busy-at-settled κs a x y v w p q = (determined p q, refl)
+
+pub is-illegal-at-settled : Settled 1 map.is_illegal_at.Kinds.ps map.is_illegal_at.Kinds.r map.is_illegal_at.Reads.Post
+is-illegal-at-settled κs a x y v w p q = (determined p q, refl)
+
+pub word-at-settled : Settled 1 ram.word_at.Kinds.ps ram.word_at.Kinds.r ram.word_at.Reads.Post
+word-at-settled κs a x y v w p q = (determined p q, refl)
+
+pub put-settled : Settled 1 ram.put.Kinds.ps ram.put.Kinds.r ram.put.Reads.Post
+put-settled κs a x y v w p q = (refl, λ i. (determined p q i, v .1))
+
+pub run-from-settled : Settled 0 window.run_from.Kinds.ps window.run_from.Kinds.r window.run_from.Reads.Post
+run-from-settled κs a x y v w p q = (determined p q, refl)
+
+pub aligned-around-settled : Settled 0 window.aligned_around.Kinds.ps window.aligned_around.Kinds.r window.aligned_around.Reads.Post
+aligned-around-settled κs a x y v w p q = (determined p q, refl)
+
+pub place-settled : Settled 0 window.place.Kinds.ps window.place.Kinds.r window.place.Reads.Post
+place-settled κs a x y v w p q = (determined p q, refl)
+
+pub rolls-over-settled : Settled 0 window.rolls_over.Kinds.ps window.rolls_over.Kinds.r window.rolls_over.Reads.Post
+rolls-over-settled κs a x y v w p q = (determined p q, refl)
+
+pub windows-meet-settled : Settled 0 window.windows_meet.Kinds.ps window.windows_meet.Kinds.r window.windows_meet.Reads.Post
+windows-meet-settled κs a x y v w p q = (determined p q, refl)
+
+pub meets-fixed-settled : Settled 0 window.meets_fixed.Kinds.ps window.meets_fixed.Kinds.r window.meets_fixed.Reads.Post
+meets-fixed-settled κs a x y v w p q = (determined p q, refl)
+
+pub fits-below-settled : Settled 0 window.fits_below.Kinds.ps window.fits_below.Kinds.r window.fits_below.Reads.Post
+fits-below-settled κs a x y v w p q = (determined p q, refl)

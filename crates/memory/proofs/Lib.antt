@@ -1,0 +1,5 @@
+pub mod Flags
+pub mod Wrap
+pub mod Meets
+pub mod Places
+pub mod Determined

@@ -1,0 +1,3 @@
+pub mod Map
+pub mod Kind
+pub mod Window

@@ -1,0 +1,60 @@
+// The kind of a cell, its number, and which kind a command uses.
+ghost use mathlib.Core.Path.{_≡_};
+ghost use mathlib.Core.Bool.{cond};
+ghost use Rattle.memory.specs.Kind.{kindNumber, cellNumber, kindOf, kindNumbered};
+use words::choose::both;
+use words::command;
+use words::settings::Settings;
+use words::settings::is_broadcast;
+
+pub enum Kind {
+    Receive,
+    Transmit,
+    Broadcast,
+}
+
+pub fn kind_number(kind: Kind) -> u16
+    ensures { λ r. ⌜ r ≡ kindNumber kind ⌝ }
+{
+    match kind {
+        Kind::Receive => 0,
+        Kind::Transmit => 1,
+        Kind::Broadcast => 2,
+    }
+}
+
+// Of u16 width for any subaddress that a command can name.
+pub fn cell_number(kind: Kind, subaddress: u16) -> usize
+    ensures { λ r. ⌜ r ≡ cellNumber kind subaddress ⌝ }
+{
+    32 * (kind_number(kind) as usize) + subaddress as usize
+}
+
+fn pick_kind(b: bool, x: Kind, y: Kind) -> Kind
+    ensures { λ r. ⌜ r ≡ cond b x y ⌝ }
+{
+    if b { x } else { y }
+}
+
+// The kind of the cell that a command uses.
+pub fn kind_of(s: Settings, command: u16) -> Kind
+    ensures { λ r. ⌜ r ≡ kindOf s command ⌝ }
+{
+    let separate = both(is_broadcast(s, command), s.separate_broadcast);
+    pick_kind(
+        command::transmit(command),
+        Kind::Transmit,
+        pick_kind(separate, Kind::Broadcast, Kind::Receive),
+    )
+}
+
+// The kind of the cell with this number.
+pub fn kind_numbered(number: u16) -> Kind
+    ensures { λ r. ⌜ r ≡ kindNumbered number ⌝ }
+{
+    pick_kind(
+        number < 32,
+        Kind::Receive,
+        pick_kind(number < 64, Kind::Transmit, Kind::Broadcast),
+    )
+}

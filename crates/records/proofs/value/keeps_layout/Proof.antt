@@ -1,0 +1,21 @@
+-- `keeps_layout` meets its contract: the same three tests.
+use borrow.Author.Needs.{needs}
+use Rattle.records.specs.Value.{keepsLayout}
+use Rattle.records.proofs.value.keeps_layout.Statement.{statement}
+use Rattle.records.proofs.value.keeps_layout.Tie as tie
+
+both-requires : tie.Need-both-requires
+both-requires c κs = search needs
+
+lasts-zero-requires : tie.Need-lasts-zero-requires
+lasts-zero-requires c κs = search needs
+
+both-requires-2 : tie.Need-both-requires-2
+both-requires-2 c κs = search needs
+
+returns : tie.Need-returns
+unfolding keepsLayout
+returns c = cc
+
+pub keeps-layout-spec : {M : Type 1} → statement M
+keeps-layout-spec = tie.close (tie.spec both-requires lasts-zero-requires both-requires-2 returns)

@@ -1,0 +1,67 @@
+// The record value, its flags, and the rules that a value keeps.
+ghost use mathlib.Core.Path.{_≡_};
+ghost use Rattle.records.specs.Value.{zeroValue, keepsLayout, onBusB, hasWrongSync, hasInvalidWord, lastsZero};
+use words::choose::both;
+use words::choose::either;
+
+// A message record as a value. It can hold what breaks the layout, since the writer refuses such a value.
+pub struct Record {
+    pub command: u16,
+    pub tag: u16,
+    pub flags: u8,
+    pub count: u8,
+    pub words: [u16; 32],
+}
+
+pub fn zero_value() -> Record
+    ensures { λ r. ⌜ r ≡ zeroValue ⌝ }
+{
+    Record {
+        command: 0,
+        tag: 0,
+        flags: 0,
+        count: 0,
+        words: [0; 32],
+    }
+}
+
+pub fn bus_b(v: Record) -> bool
+    ensures { λ r. ⌜ r ≡ onBusB v ⌝ }
+{
+    v.flags % 2 == 1
+}
+
+pub fn wrong_sync(v: Record) -> bool
+    ensures { λ r. ⌜ r ≡ hasWrongSync v ⌝ }
+{
+    v.flags / 2 % 2 == 1
+}
+
+pub fn invalid_word(v: Record) -> bool
+    ensures { λ r. ⌜ r ≡ hasInvalidWord v ⌝ }
+{
+    v.flags / 4 % 2 == 1
+}
+
+// Whether the words from `count` on are zero.
+fn lasts_zero(words: [u16; 32], count: u8) -> bool
+    ensures { λ r. ⌜ r ≡ lastsZero words count 32 ⌝ }
+{
+    let mut ok = true;
+    let mut i: usize = 0;
+    while i < 32 {
+        ok = both(ok, either(i < count as usize, words[i] == 0));
+        i += 1;
+    }
+    ok
+}
+
+pub fn keeps_layout(v: Record) -> bool
+    ensures { λ r. ⌜ r ≡ keepsLayout v ⌝ }
+{
+    let words = v.words;
+    both(
+        both(v.flags <= 7, v.count <= 33),
+        lasts_zero(words, v.count),
+    )
+}
