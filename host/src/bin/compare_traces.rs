@@ -14,13 +14,15 @@ use bench_side::terminal::trace::{planted_trace_output, IMAGE_BYTES};
 use bench_side::terminal::Planted;
 use bench_side::text::unpack;
 
-const USAGE: &str =
-    "usage: compare_traces [--traces N] [--seed N] [--planted ERROR] PROGRAM [ARGUMENT...]";
+const USAGE: &str = "usage: compare_traces [--traces N] [--seed N] [--planted ERROR] \
+    [--report short|whole] PROGRAM [ARGUMENT...]";
 
 struct Options {
     traces: u64,
     seed: u64,
     planted: Planted,
+    /// Whether a trace that differs is made small and printed.
+    whole_report: bool,
     program: Vec<String>,
 }
 
@@ -40,6 +42,7 @@ fn options() -> Result<Options, Box<dyn Error>> {
         traces: 200,
         seed: 1,
         planted: Planted::None,
+        whole_report: true,
         program: Vec::new(),
     };
     let mut arguments = env::args().skip(1).peekable();
@@ -49,6 +52,7 @@ fn options() -> Result<Options, Box<dyn Error>> {
             "--traces" => options.traces = value.parse().map_err(|_| USAGE)?,
             "--seed" => options.seed = value.parse().map_err(|_| USAGE)?,
             "--planted" => options.planted = Planted::named(&value).ok_or(USAGE)?,
+            "--report" => options.whole_report = value != "short",
             _ => return Err(USAGE.into()),
         }
     }
@@ -71,7 +75,9 @@ fn run(options: &Options) -> Result<bool, Box<dyn Error>> {
                 "difference: seed {seed}, after {} traces that were the same",
                 seed - options.seed
             );
-            report(options, &trace, seed)?;
+            if options.whole_report {
+                report(options, &trace, seed)?;
+            }
             // A planted error is there to be found.
             return Ok(options.planted != Planted::None);
         }
