@@ -1,0 +1,57 @@
+-- `noise` ends: `i` counts up to 4096, and RAM keeps its length.
+use Prim.Native.Nat.{_≤_, _-_}
+use mathlib.Core.Path.{_≡_}
+use lib.ListN.{length}
+use borrow.Author.Needs.{needs}
+use native.Mathlib.Omega.{arith}
+use Rattle.exchange_run.proofs.session.noise.Statement.{statement}
+use Rattle.exchange_run.proofs.session.noise.Tie as tie
+
+abbrev Inv-loop : tie.InvT-loop
+Inv-loop ram₀ session i₀ ram i = (i ≤ 4096) × (length ram ≡ length ram₀)
+
+abbrev μ-loop : tie.MeasureT-loop
+μ-loop ram₀ session i₀ ram i = 4096 - i
+
+loop-holds : tie.Need-loop-holds Inv-loop μ-loop
+loop-holds c = search needs
+
+cast-put : tie.Need-cast-put Inv-loop μ-loop
+cast-put c = search needs
+
+draw-requires : tie.Need-draw-requires Inv-loop μ-loop
+draw-requires c κs = search needs
+
+put-requires : tie.Need-put-requires Inv-loop μ-loop
+put-requires c κs = search needs
+
+add-i : tie.Need-add-i Inv-loop μ-loop
+add-i c = search needs
+
+loop-less : tie.Need-loop-less Inv-loop μ-loop
+loop-less c = search needs
+
+loop-again : tie.Need-loop-again Inv-loop μ-loop
+loop-again c = (omega arith, cc)
+
+same-length : tie.Need-same-length Inv-loop μ-loop
+same-length c = cc
+
+returns : tie.Need-returns Inv-loop μ-loop
+returns c = search needs
+
+pub noise-spec : {M : Type 1} → statement M
+noise-spec =
+    tie.close
+    (tie.spec
+    Inv-loop
+    μ-loop
+    loop-holds
+    cast-put
+    draw-requires
+    put-requires
+    add-i
+    loop-less
+    loop-again
+    same-length
+    returns)
