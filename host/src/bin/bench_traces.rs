@@ -17,7 +17,7 @@ use std::time::Duration;
 use bench_side::compare::traces::long_trace;
 
 const USAGE: &str = "usage: bench_traces PLAIN... -- PROVED...";
-const RECORDS: [usize; 3] = [10_000, 100_000, 1_000_000];
+const RECORDS: [usize; 4] = [0, 10_000, 100_000, 1_000_000];
 const REPEATS: usize = 5;
 const LOOK_EVERY: Duration = Duration::from_millis(1);
 
