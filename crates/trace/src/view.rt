@@ -1,7 +1,7 @@
 // A view that holds the caller's trace and a place in it. Each function over it takes it apart and calls a function on the
 // slice and the number, since a struct that holds a reference is proved by hand.
 ghost use mathlib.Core.Path.{_≡_};
-ghost use Rattle.trace.specs.View.{noneAt, takenAt};
+ghost use Rattle.trace.specs.View.{hasRecord, noneAt, takenAt};
 use records::reader::Reading;
 use records::reader::read;
 use records::value::zero_value;
@@ -31,22 +31,29 @@ fn none_at(at: usize) -> Taken
     }
 }
 
-// The work: the record at a place of a slice, also where the place lies beyond the end.
+// Whether 80 bytes stand at a place, which may lie beyond the end.
+fn has_record(trace: &[u8], at: usize) -> bool
+    ensures { λ r. ⌜ r ≡ hasRecord (now (trace .entry)) at ⌝ }
+{
+    if trace.len() < at {
+        return false;
+    }
+    80 <= trace.len() - at
+}
+
+// The work: the record at a place of a slice.
 pub fn take_at(trace: &[u8], at: usize) -> Taken
     ensures { λ r. ⌜ r ≡ takenAt (now (trace .entry)) at ⌝ }
 {
-    if trace.len() < at {
-        return none_at(at);
+    if has_record(trace, at) {
+        let reading = read(&trace[at..at + 80]);
+        return Taken {
+            found: true,
+            at: at + 80,
+            reading,
+        };
     }
-    if trace.len() - at < 80 {
-        return none_at(at);
-    }
-    let reading = read(&trace[at..at + 80]);
-    Taken {
-        found: true,
-        at: at + 80,
-        reading,
-    }
+    none_at(at)
 }
 
 pub fn view_of<'a>(trace: &'a [u8]) -> View<'a>
