@@ -4,8 +4,10 @@
 use bench_side::compare::coverage::Coverage;
 use bench_side::compare::replay::{read_case, write_case};
 use bench_side::compare::shrink::shrink;
+use bench_side::compare::traces::{long_trace, random_trace, shrink_trace};
 use bench_side::compare::{compare, Case, Plain};
-use bench_side::terminal::Planted;
+use bench_side::terminal::trace::planted_trace_output;
+use bench_side::terminal::{trace_output, Planted};
 
 const GOOD: Plain = Plain(Planted::None);
 
@@ -97,4 +99,46 @@ fn errors_in_a_case_name_the_line() {
         let error = read_case(text).unwrap_err().to_string();
         assert!(error.starts_with(expected), "{error}");
     }
+}
+
+/// What a trace prints shows three of the errors.
+#[test]
+fn planted_errors_are_caught_in_traces() {
+    for planted in [
+        Planted::RolloverWhenKeptBack,
+        Planted::WrapByWordCount,
+        Planted::ZeroCountIsNone,
+    ] {
+        let differs = |trace: &[u8]| planted_trace_output(planted, trace) != trace_output(trace);
+        let trace = (1..200).map(random_trace).find(|trace| differs(trace));
+        let trace = trace.expect("some trace shows the error");
+        let smallest = shrink_trace(&trace, differs);
+        assert!(differs(&smallest));
+        let records = (smallest.len() - 8192) / 80;
+        assert!(records <= 2, "{}: {records} records", planted.name());
+    }
+}
+
+#[test]
+fn random_traces_have_every_kind_of_line() {
+    let mut output = String::new();
+    for seed in 1..300 {
+        output += &String::from_utf8(trace_output(&random_trace(seed))).unwrap();
+    }
+    let lines: Vec<&str> = output.lines().collect();
+    for number in [0, 5, 6, 7, 8, 9] {
+        let column = number.to_string();
+        let numbers = lines.iter().map(|line| line.split(' ').nth(1));
+        assert!(numbers.flatten().any(|number| number == column), "{number}");
+    }
+    for start in ["image ", "tail ", "end 0", "end 20000"] {
+        assert!(lines.iter().any(|line| line.starts_with(start)), "{start}");
+    }
+    assert!(output.contains(" none "));
+}
+
+#[test]
+fn a_long_trace_is_as_long_as_it_says() {
+    assert_eq!(long_trace(7).len(), 8192 + 7 * 80);
+    assert!(trace_output(&long_trace(7)).ends_with(b"end 7\n"));
 }

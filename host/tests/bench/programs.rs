@@ -1,4 +1,4 @@
-//! The two programs, run as a student would run them.
+//! The programs, run as a student would run them.
 
 use std::io::Write;
 use std::process::{Command, Output, Stdio};
@@ -8,6 +8,7 @@ use crate::trace::{example_input, EXAMPLE_OUTPUT};
 
 const TRACE: &str = env!("CARGO_BIN_EXE_trace_rust");
 const TEXT: &str = env!("CARGO_BIN_EXE_bench_text");
+const COMPARE_TRACES: &str = env!("CARGO_BIN_EXE_compare_traces");
 
 fn run(program: &str, arguments: &[&str], input: &[u8]) -> Output {
     let mut child = Command::new(program)
@@ -71,4 +72,30 @@ fn errors_end_with_status_1() {
         let printed = String::from_utf8(output.stderr).unwrap();
         assert!(printed.starts_with(message), "{printed}");
     }
+}
+
+#[test]
+fn traces_are_compared() {
+    let compare = |arguments: &[&str]| {
+        let arguments = [arguments, &[TRACE]].concat();
+        let output = run(COMPARE_TRACES, &arguments, &[]);
+        (
+            output.status.code(),
+            String::from_utf8(output.stdout).unwrap(),
+        )
+    };
+    let (status, printed) = compare(&["--traces", "20"]);
+    assert_eq!(status, Some(0));
+    assert!(printed.starts_with("20 traces from seed 1 on"), "{printed}");
+
+    let (status, printed) = compare(&["--planted", "zero-count-is-none"]);
+    assert_eq!(status, Some(0));
+    assert!(printed.contains("\nmessage "), "{printed}");
+
+    // This one does not show in what is printed, so it is not found.
+    let (status, _) = compare(&["--traces", "5", "--planted", "pointer-after-in-descriptor"]);
+    assert_eq!(status, Some(1));
+
+    let (status, _) = compare(&["--traces", "many"]);
+    assert_eq!(status, Some(2));
 }
