@@ -6,3 +6,34 @@ use Rattle.boundary.proofs.calls
 
 pub check-area-settled : Settled 2 calls.solkverva_check_area.Kinds.ps calls.solkverva_check_area.Kinds.r calls.solkverva_check_area.Reads.Post
 check-area-settled κs a x y v w p q = (determined p q, refl)
+
+pub message-settled : Settled 6 calls.solkverva_message.Kinds.ps calls.solkverva_message.Kinds.r calls.solkverva_message.Reads.Post
+message-settled κs a x y v w p q = (
+  refl,
+  λ i. (
+    determined (p .0) (q .0) i,
+    (
+      determined (p .1 .0) (q .1 .0) i,
+      (v .1 .1 .0, (determined (p .1 .1 .0) (q .1 .1 .0) i, (v .1 .1 .1 .1 .0, (determined (p .1 .1 .1) (q .1 .1 .1) i, v .1 .1 .1 .1 .1 .1)))),
+    ),
+  ),
+)
+
+pub message-value-settled :
+    Settled 6 calls.solkverva_message_value.Kinds.ps calls.solkverva_message_value.Kinds.r calls.solkverva_message_value.Reads.Post
+message-value-settled κs a x y v w p q = (
+  refl,
+  λ i. (
+    determined (p .0) (q .0) i,
+    (
+      determined (p .1 .0) (q .1 .0) i,
+      (v .1 .1 .0, (determined (p .1 .1 .0) (q .1 .1 .0) i, (v .1 .1 .1 .1 .0, (determined (p .1 .1 .1) (q .1 .1 .1) i, v .1 .1 .1 .1 .1 .1)))),
+    ),
+  ),
+)
+
+pub read-settled : Settled 2 calls.solkverva_read.Kinds.ps calls.solkverva_read.Kinds.r calls.solkverva_read.Reads.Post
+read-settled κs a x y v w p q = (determined (p .0) (q .0), λ i. (v .0, (determined (p .1) (q .1) i, v .1 .1)))
+
+pub write-settled : Settled 2 calls.solkverva_write.Kinds.ps calls.solkverva_write.Kinds.r calls.solkverva_write.Reads.Post
+write-settled κs a x y v w p q = (determined (p .0) (q .0), λ i. (v .0, (determined (p .1) (q .1) i, v .1 .1)))
