@@ -1,9 +1,9 @@
 // What stands between two lines of a script: settings, the remembered state, how many words of RAM and reply are lent, and the
 // last message.
+use records::value::Record;
 use words::settings::Area;
 use words::settings::Remembered;
 use words::settings::Settings;
-use words::value::Record;
 
 pub struct Bench {
     pub settings: Settings,
@@ -16,7 +16,7 @@ pub struct Bench {
 pub fn fresh() -> Bench {
     let settings = settings(5, 0, 256, 1);
     let remembered = words::settings::nothing_remembered();
-    let last = words::value::zero_value();
+    let last = records::value::zero_value();
     Bench {
         settings,
         remembered,

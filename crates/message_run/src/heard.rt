@@ -6,7 +6,7 @@ use crate::show;
 use message::answer::Outcome;
 use message::serve::message_from_bytes;
 use message::serve::message_from_value;
-use words::value::Record;
+use records::value::Record;
 
 // `first`, and each word `step` more than the one before; zero from `n` on.
 fn rising(first: u16, step: u16, n: u16) -> [u16; 32] {

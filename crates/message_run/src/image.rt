@@ -1,8 +1,8 @@
 // Words of RAM and reply: filling a run, putting words in a row, showing a run.
 ghost use Prim.Native.Nat.{_≤_};
 use crate::show;
-use cells::ram::put;
-use cells::ram::word_at;
+use memory::ram::put;
+use memory::ram::word_at;
 
 // `word` at each of the `n` places from `from` on.
 pub fn fill(ram: &mut [u16], from: u16, n: u16, word: u16) {
