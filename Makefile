@@ -11,12 +11,14 @@ test:
 	@scripts/cargo test --quiet --release
 	@scripts/compare
 	@scripts/compare-traces
+	@scripts/compare-refills
 	@rt ci
 
 # The proved terminal and the proved trace program against plain Rust.
 compare:
 	@scripts/compare
 	@scripts/compare-traces
+	@scripts/compare-refills
 
 # Speed of the proved side against plain Rust, as tables.
 bench:
