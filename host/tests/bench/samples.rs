@@ -57,3 +57,53 @@ end 3
     assert_eq!(String::from_utf8(output).unwrap(), expected);
     assert_eq!(trace_with_changes(&[0; 7]), b"image 7\n");
 }
+
+/// The blocks of a document between lines of three backquotes.
+fn blocks(document: &str) -> Vec<String> {
+    let mut blocks = Vec::new();
+    let mut block: Option<String> = None;
+    for line in document.lines() {
+        match (&mut block, line.starts_with("```")) {
+            (None, true) => block = Some(String::new()),
+            (Some(_), true) => blocks.extend(block.take()),
+            (Some(text), false) => *text += &format!("{line}\n"),
+            (None, false) => {}
+        }
+    }
+    blocks
+}
+
+/// What a command of the guide prints: `scripts/trace`, with changes or not.
+fn printed(command: &str) -> Option<String> {
+    let root = Path::new(env!("CARGO_MANIFEST_DIR")).join("..");
+    let words: Vec<&str> = command.split(' ').collect();
+    let input = |file| pack(&fs::read(root.join(file)).unwrap()).unwrap();
+    let output = match words[..] {
+        ["$", "scripts/trace", "--changes", file] => trace_with_changes(&input(file)),
+        ["$", "scripts/trace", file] => trace_output(&input(file)),
+        _ => return None,
+    };
+    Some(String::from_utf8(output).unwrap())
+}
+
+#[test]
+fn the_guide_for_the_class_shows_what_is_printed() {
+    let root = Path::new(env!("CARGO_MANIFEST_DIR")).join("..");
+    let guide = fs::read_to_string(root.join("docs/CLASS.md")).unwrap();
+    let mut commands = 0;
+    for block in blocks(&guide) {
+        let (first, shown) = block.split_once('\n').unwrap_or_default();
+        if let Some(printed) = printed(first) {
+            match shown.strip_suffix("...\n") {
+                Some(beginning) => assert!(printed.starts_with(beginning), "{first}"),
+                None => assert_eq!(shown, printed, "{first}"),
+            }
+            commands += 1;
+        }
+    }
+    assert_eq!(commands, 4);
+    for sample in ["pointer", "owners", "bad"] {
+        let text = fs::read_to_string(root.join(format!("examples/{sample}.txt"))).unwrap();
+        assert!(blocks(&guide).contains(&text), "{sample}");
+    }
+}
