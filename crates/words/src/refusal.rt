@@ -1,4 +1,4 @@
-// The order of the numbers that refuse, written once: every entry point asks `first_refusal`.
+// The order of the numbers that refuse: the message and the whole-area check ask `first_refusal`; reader and writer have short lists.
 ghost use mathlib.Core.Path.{_≡_};
 ghost use Rattle.words.specs.Refusal.{firstRefusal};
 use crate::choose::pick;
