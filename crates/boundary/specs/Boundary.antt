@@ -10,9 +10,9 @@ use Rattle.words.specs.declared.settings.Area.{Area}
 use Rattle.words.specs.declared.settings.Area.the-variants.{A, B}
 use Rattle.words.specs.declared.settings.Remembered.{Remembered}
 use Rattle.records.specs.declared.value.Record.{Record}
-use Rattle.records.specs.Layout.{fill}
+use Rattle.layout.specs.Layout.{fill}
 use Rattle.records.specs.Value.{zeroWords}
-use Rattle.cells.specs.declared.area.Checked.{Checked}
+use Rattle.area.specs.declared.area.Checked.{Checked}
 use Rattle.memory.specs.Map.{bitOf}
 use Rattle.message.specs.declared.answer.Answer.{Answer}
 

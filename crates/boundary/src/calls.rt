@@ -1,8 +1,8 @@
 // The exported functions.
 ghost use mathlib.Core.Path.{_≡_};
-ghost use Rattle.records.specs.Layout.{readRecord};
-ghost use Rattle.records.specs.Writing.{writeRecord};
-ghost use Rattle.cells.specs.Area.{checkArea};
+ghost use Rattle.layout.specs.Layout.{readRecord};
+ghost use Rattle.layout.specs.Writing.{writeRecord};
+ghost use Rattle.area.specs.Area.{checkArea};
 ghost use Rattle.message.specs.Message.{outcomeOfBytes, ramAfterBytes, replyAfterBytes, outcomeOfValue, ramAfterValue, replyAfterValue};
 ghost use Rattle.boundary.specs.Boundary.{settingsFrom, rememberedFrom, rememberedInto, answerInto, valueFrom, valueInto, bytesInto, checkWord};
 use crate::plain::put_answer;
@@ -12,11 +12,11 @@ use crate::plain::put_value;
 use crate::plain::remembered_from;
 use crate::plain::settings_from;
 use crate::plain::value_from;
-use cells::area::check_area;
+use area::area::check_area;
+use layout::reader::read;
+use layout::writer::write;
 use message::serve::message_from_bytes;
 use message::serve::message_from_value;
-use records::reader::read;
-use records::writer::write;
 
 // The whole-area check: the number in the upper half, the cell in the lower.
 #[no_mangle]

@@ -4,7 +4,7 @@ ghost use mathlib.Core.Bool.{not};
 ghost use Prim.Native.Nat.{min, _+_};
 ghost use lib.ListN.{getD};
 ghost use Rattle.boundary.specs.Boundary.{areaFrom, settingsFrom, rememberedFrom, rememberedInto, answerInto, over, valueFrom, valueInto, bytesInto};
-ghost use Rattle.records.specs.Layout.{fill};
+ghost use Rattle.layout.specs.Layout.{fill};
 ghost use Rattle.records.specs.Value.{zeroWords};
 ghost use Rattle.memory.specs.Map.{bitOf};
 ghost use lib.Dec.{eqb};

@@ -14,9 +14,9 @@ use Rattle.words.specs.declared.settings.Settings.{Settings}
 use Rattle.words.specs.Settings.{settingsRefused}
 use Rattle.words.proofs.SettingsLaws.{settings-agreed}
 use Rattle.words.proofs.Basics.{and-left, and-right}
-use Rattle.memory.specs.Window.{aligned, placeOf, meetsFixed, fitsBelow}
+use Rattle.windows.specs.Window.{aligned, placeOf, meetsFixed, fitsBelow}
 use Rattle.cells.specs.Stack.{stackPointer, stackWindow, stackSound}
-use Rattle.memory.proofs.Wrap.{place-from, place-below, aligned-size, aligned-same, SameRun}
+use Rattle.windows.proofs.Wrap.{place-from, place-below, aligned-size, aligned-same, SameRun}
 use Rattle.memory.proofs.Places.{OrdinaryAddress}
 use Rattle.cells.proofs.Sound.{OffFixed, fixed-off, off-fixed, ordinary-address}
 

@@ -1,8 +1,4 @@
-pub mod Turns
 pub mod Sizes
 pub mod Sound
 pub mod Block
-pub mod Lowest
-pub mod Listed
-pub mod Whole
 pub mod Determined

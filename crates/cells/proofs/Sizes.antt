@@ -13,9 +13,9 @@ use Rattle.words.proofs.Basics.{yes-or-no}
 use Rattle.memory.specs.declared.kind.Kind.{Kind}
 use Rattle.cells.specs.declared.cell.Scheme.{Scheme}
 use Rattle.cells.specs.declared.cell.Scheme.the-variants.{Single, Double, Circular}
-use Rattle.memory.specs.Window.{runFrom, aligned}
+use Rattle.windows.specs.Window.{runFrom, aligned}
 use Rattle.cells.specs.Cell.{controlPart, sizeOf, doublesKind, pickScheme, schemeOf, cellAt, windowOf}
-use Rattle.memory.proofs.Wrap.{aligned-pointer, aligned-offset, aligned-size, aligned-same, SameRun}
+use Rattle.windows.proofs.Wrap.{aligned-pointer, aligned-offset, aligned-size, aligned-same, SameRun}
 
 -- the schemes that a control word can give: a circular size is 64·2^m with m from 1 to 7
 pub data Sized : Scheme → Type 0 where

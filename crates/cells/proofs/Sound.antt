@@ -9,12 +9,12 @@ use Rattle.words.proofs.Basics.{and-left, and-right, or-left, or-right}
 use Rattle.cells.specs.declared.cell.Scheme.{Scheme}
 use Rattle.cells.specs.declared.cell.Scheme.the-variants.{Single, Double, Circular}
 use Rattle.cells.specs.declared.cell.Cell.{Cell}
-use Rattle.memory.specs.declared.window.Window.{Window}
-use Rattle.memory.specs.Window.{placeOf, meets, meetsFixed, windowsMeet, fitsBelow}
+use Rattle.windows.specs.declared.window.Window.{Window}
+use Rattle.windows.specs.Window.{placeOf, meets, meetsFixed, windowsMeet, fitsBelow}
 use Rattle.cells.specs.Cell.{windowOf, doubleFits, cellWindow, soundCell}
-use Rattle.memory.proofs.Flags.{or-neither}
-use Rattle.memory.proofs.Wrap.{place-from, place-below, SameRun}
-use Rattle.memory.proofs.Meets.{nothing-shared}
+use Rattle.windows.proofs.Flags.{or-neither}
+use Rattle.windows.proofs.Wrap.{place-from, place-below, SameRun}
+use Rattle.windows.proofs.Meets.{nothing-shared}
 use Rattle.memory.proofs.Places.{OrdinaryAddress}
 use Rattle.cells.proofs.Sizes.{Sized, window-nonempty, window-kept}
 

@@ -10,10 +10,10 @@ use Rattle.memory.specs.declared.kind.Kind.the-variants.{Receive, Transmit, Bro
 use Rattle.cells.specs.declared.cell.Scheme.{Scheme}
 use Rattle.cells.specs.declared.cell.Scheme.the-variants.{Single, Double, Circular}
 use Rattle.cells.specs.declared.cell.Cell.{Cell}
-use Rattle.memory.specs.declared.window.Window.{Window}
+use Rattle.windows.specs.declared.window.Window.{Window}
 use Rattle.memory.specs.Map.{lookupPlace, controlPlace}
 use Rattle.memory.specs.Kind.{cellNumber}
-use Rattle.memory.specs.Window.{runFrom, aligned, windowsMeet, meetsFixed, fitsBelow}
+use Rattle.windows.specs.Window.{runFrom, aligned, windowsMeet, meetsFixed, fitsBelow}
 
 -- "transmit 14 end-of-message interrupt, 13 circular interrupt, 12-10 size; receive 9, 8, 7-5; broadcast 4, 3, 2-0":
 -- the five bits of a kind, brought down to bits 4, 3, 2-0

@@ -1,3 +1,2 @@
 pub mod Cell
 pub mod Stack
-pub mod Area

@@ -5,9 +5,9 @@ use mathlib.Core.List.{List}
 use lib.ListN.{length, getD}
 use lib.Dec.{leb, eqb}
 use Rattle.words.specs.declared.settings.Settings.{Settings}
-use Rattle.memory.specs.declared.window.Window.{Window}
+use Rattle.windows.specs.declared.window.Window.{Window}
 use Rattle.memory.specs.Map.{stackPointerPlace}
-use Rattle.memory.specs.Window.{aligned, meetsFixed, fitsBelow}
+use Rattle.windows.specs.Window.{aligned, meetsFixed, fitsBelow}
 
 unfoldable pub stackPointer : List ℕ → Settings → ℕ
 stackPointer ram s = getD ram (stackPointerPlace (s .area)) 0

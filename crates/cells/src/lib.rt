@@ -1,4 +1,3 @@
-// The second layer, second half: cells, the stack, the whole-area check. Document 01, "Cells and windows".
-pub mod area;
+// The second layer: cells and the stack. Document 01, "Cells and windows".
 pub mod cell;
 pub mod stack;

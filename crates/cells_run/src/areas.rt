@@ -2,7 +2,7 @@
 ghost use Prim.Native.Nat.{_≤_};
 use crate::image;
 use crate::show;
-use cells::area::check_area;
+use area::area::check_area;
 use memory::map::is_illegal_at;
 use memory::ram::put;
 use words::settings::Area;

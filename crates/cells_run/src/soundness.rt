@@ -8,7 +8,7 @@ use cells::cell::window_of;
 use cells::stack::stack_sound;
 use memory::kind::Kind;
 use memory::ram::put;
-use memory::window::aligned_around;
+use windows::window::aligned_around;
 use words::settings::Area;
 
 // A cell of this scheme and pointer, beside a stack of 256 words around `stack`.

@@ -1,9 +1,9 @@
 // Blocks, the place after k words, and rollover. A row is a pointer that moves on, four times, in a block of its size.
 use crate::show;
-use memory::window::Window;
-use memory::window::aligned_around;
-use memory::window::place;
-use memory::window::rolls_over;
+use windows::window::Window;
+use windows::window::aligned_around;
+use windows::window::place;
+use windows::window::rolls_over;
 
 fn moved(w: Window, k: u16, to: usize) {
     show::text(b", after");

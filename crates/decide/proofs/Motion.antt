@@ -5,9 +5,9 @@ use mathlib.Core.Path.{_≡_, refl}
 use mathlib.Core.Bool.{Bool, true, false, true≢false}
 use Rattle.cells.specs.declared.cell.Scheme.{Scheme}
 use Rattle.cells.specs.declared.cell.Scheme.the-variants.{Single, Double}
-use Rattle.memory.specs.Window.{placeOf}
+use Rattle.windows.specs.Window.{placeOf}
 use Rattle.cells.specs.Cell.{windowOf}
-use Rattle.memory.proofs.Wrap.{place-from, place-below, SameRun, double-flips}
+use Rattle.windows.proofs.Wrap.{place-from, place-below, SameRun, double-flips}
 use Rattle.cells.proofs.Sizes.{Sized, window-nonempty, window-pointer, window-offset, window-kept}
 use Rattle.decide.specs.Deed.{mayMove, stride, moves, motionWith}
 

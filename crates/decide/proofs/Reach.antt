@@ -1,33 +1,26 @@
--- The numbers of a plan are 16-bit words: places of an addressed window, cell numbers, and at most 32 words are stored.
+-- The numbers of a plan are 16-bit words: places of an addressed window, and at most 32 words are stored.
 use Prim.Native.Nat.{ℕ, _≤_, _<_, min}
 use native.Mathlib.Omega.{arith}
 use native.Mathlib.Nat.{min-le-right}
-use mathlib.Core.Path.{_≡_}
 use mathlib.Core.Logic.{⊎-elim}
 use mathlib.Core.Bool.{_||_}
 use mathlib.Core.List.{List}
 use Rattle.records.specs.declared.value.Record.{Record}
 use Rattle.words.specs.declared.settings.Settings.{Settings}
-use Rattle.words.specs.Command.{transmits, subaddressOf, wordCount}
+use Rattle.words.specs.Command.{transmits, wordCount}
 use Rattle.words.proofs.Basics.{yes-or-no}
-use Rattle.words.proofs.Commands.{word-count-to, subaddress-small}
-use Rattle.memory.specs.declared.window.Window.{Window}
-use Rattle.memory.specs.declared.kind.Kind.{Kind}
-use Rattle.memory.specs.Window.{placeOf}
-use Rattle.memory.specs.Kind.{cellNumber}
-use Rattle.memory.proofs.Wrap.{place-below}
-use Rattle.cells.proofs.Listed.{number-below}
-use Rattle.decide.specs.declared.target.Target.{Target}
-use Rattle.decide.specs.Target.{targetOf}
+use Rattle.words.proofs.Commands.{word-count-to}
+use Rattle.windows.specs.declared.window.Window.{Window}
+use Rattle.windows.specs.Window.{placeOf}
+use Rattle.windows.proofs.Wrap.{place-below}
+use Rattle.arrival.specs.declared.target.Target.{Target}
+use Rattle.arrival.specs.Target.{targetOf}
 use Rattle.decide.specs.Deed.{withheld, wordsStored, actWith, actOf}
 use Rattle.decide.specs.Plan.{deedOf, planOf}
 use Rattle.decide.specs.Ready.{Addressed}
 
 pub place-fits : (w : Window) (k : ℕ) → Addressed w → placeOf w k < 65536
 place-fits w k a = omega (arith, place-below w k (a .some), a .ends)
-
-pub number-fits : (kind : Kind) (command sub : ℕ) → sub ≡ subaddressOf command → cellNumber kind sub < 96
-number-fits kind command sub e = number-below kind sub (omega (arith, subaddress-small command))
 
 pub stored-fits : (s : Settings) (t : Target) (v : Record) → wordsStored s t v ≤ 32
 unfolding wordsStored

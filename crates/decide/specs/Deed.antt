@@ -7,13 +7,13 @@ use Rattle.words.specs.declared.settings.Settings.{Settings}
 use Rattle.words.specs.Command.{transmits, wordCount}
 use Rattle.cells.specs.declared.cell.Scheme.{Scheme}
 use Rattle.cells.specs.declared.cell.Scheme.the-variants.{Single, Double, Circular}
-use Rattle.memory.specs.declared.window.Window.{Window}
-use Rattle.memory.specs.Window.{placeOf, rollsOver}
-use Rattle.decide.specs.declared.fault.Faults.{Faults}
-use Rattle.decide.specs.declared.target.Target.{Target}
+use Rattle.windows.specs.declared.window.Window.{Window}
+use Rattle.windows.specs.Window.{placeOf, rollsOver}
+use Rattle.arrival.specs.declared.fault.Faults.{Faults}
+use Rattle.arrival.specs.declared.target.Target.{Target}
 use Rattle.decide.specs.declared.deed.Act.{Act}
 use Rattle.decide.specs.declared.deed.Motion.{Motion}
-use Rattle.decide.specs.Fault.{faultsFor, anyFault}
+use Rattle.arrival.specs.Fault.{faultsFor, anyFault}
 
 -- "It stores none if illegal under illegal-receive-disable, or busy under busy-receive-disable."
 unfoldable pub withheld : Settings → Target → Bool

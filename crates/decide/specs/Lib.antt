@@ -1,5 +1,3 @@
-pub mod Fault
-pub mod Target
 pub mod Deed
 pub mod Report
 pub mod Plan

@@ -3,13 +3,13 @@ use Prim.Native.Nat.{ℕ}
 use mathlib.Core.List.{List}
 use Rattle.records.specs.declared.value.Record.{Record}
 use Rattle.words.specs.declared.settings.Settings.{Settings}
-use Rattle.memory.specs.Window.{placeOf, rollsOver}
+use Rattle.windows.specs.Window.{placeOf, rollsOver}
 use Rattle.cells.specs.Stack.{stackPointer, stackWindow}
-use Rattle.decide.specs.declared.target.Target.{Target}
+use Rattle.arrival.specs.declared.target.Target.{Target}
 use Rattle.decide.specs.declared.plan.Deed.{Deed}
 use Rattle.decide.specs.declared.plan.Entry.{Entry}
 use Rattle.decide.specs.declared.plan.Plan.{Plan}
-use Rattle.decide.specs.Target.{targetOf}
+use Rattle.arrival.specs.Target.{targetOf}
 use Rattle.decide.specs.Deed.{actOf, motionOf}
 use Rattle.decide.specs.Report.{reportOf}
 

@@ -2,9 +2,9 @@
 use Prim.Native.Nat.{ℕ, _+_, _≤_, _<_}
 use mathlib.Core.List.{List}
 use Rattle.words.specs.declared.settings.Settings.{Settings}
-use Rattle.memory.specs.declared.window.Window.{Window}
+use Rattle.windows.specs.declared.window.Window.{Window}
 use Rattle.cells.specs.Stack.{stackWindow}
-use Rattle.decide.specs.Target.{targetOf}
+use Rattle.arrival.specs.Target.{targetOf}
 
 -- every place of the window is a 16-bit address
 pub record Addressed (w : Window) : Type 0 where

@@ -5,12 +5,12 @@ use Rattle.records.specs.declared.value.Record.{Record}
 use Rattle.words.specs.declared.settings.Settings.{Settings}
 use Rattle.records.specs.Value.{onBusB}
 use Rattle.memory.specs.Map.{bitOf}
-use Rattle.decide.specs.declared.fault.Faults.{Faults}
-use Rattle.decide.specs.declared.target.Target.{Target}
+use Rattle.arrival.specs.declared.fault.Faults.{Faults}
+use Rattle.arrival.specs.declared.target.Target.{Target}
 use Rattle.decide.specs.declared.deed.Act.{Act}
 use Rattle.decide.specs.declared.deed.Motion.{Motion}
 use Rattle.decide.specs.declared.report.Report.{Report}
-use Rattle.decide.specs.Fault.{anyFault}
+use Rattle.arrival.specs.Fault.{anyFault}
 
 -- rule 7: "15 set; 13 bus B; 12 and 10 any fault; 7 rollover; 6 illegal; 5 count; 4 sync; 3 invalid word; 0 contents."
 unfoldable pub blockStatus : Bool → Faults → Bool → Bool → ℕ

@@ -10,13 +10,13 @@ use crate::deed::act_of;
 use crate::deed::motion_of;
 use crate::report::Report;
 use crate::report::report_of;
-use crate::target::Target;
-use crate::target::target_of;
+use arrival::target::Target;
+use arrival::target::target_of;
 use cells::stack::stack_pointer;
 use cells::stack::stack_window;
-use memory::window::place;
-use memory::window::rolls_over;
 use records::value::Record;
+use windows::window::place;
+use windows::window::rolls_over;
 use words::settings::Settings;
 
 // What happens in the cell.

@@ -10,13 +10,13 @@ use Rattle.words.specs.Settings.{stackSizeListed, settingsRefused, isOwn, isBro
 use Rattle.records.specs.Value.{lastsZero, keepsLayout}
 use Rattle.words.specs.Refusal.{firstOf, inOrder, firstRefusal}
 use Rattle.memory.specs.Map.{ramRefused, stackPointerPlace, lookupTable, busyPlace, isBusyAt, illegalPlace, isIllegalAt}
-use Rattle.memory.specs.Window.{runFrom, aligned, placeOf, rollsOver, meets, meetsFixed}
+use Rattle.windows.specs.Window.{runFrom, aligned, placeOf, rollsOver, meets, meetsFixed}
 use Rattle.memory.specs.Kind.{cellNumber, kindNumbered, kindOf}
 use Rattle.cells.specs.Cell.{controlPart, pickScheme, schemeOf, cellAt, windowOf, doubleFits, soundCell}
 use Rattle.cells.specs.Stack.{stackPointer, stackWindow, stackSound}
-use Rattle.cells.specs.Area.{isRead, cellNumbered, isUnsound, orElse, lowest, lowestUnsound, areaGrounds, areaRefusal, checkArea}
-use Rattle.decide.specs.Fault.{expectedWords, faultsOf, faultsFor, anyFault}
-use Rattle.decide.specs.Target.{cellFor, isIllegal, isBusy, targetOf}
+use Rattle.area.specs.Area.{isRead, cellNumbered, isUnsound, orElse, lowest, lowestUnsound, areaGrounds, areaRefusal, checkArea}
+use Rattle.arrival.specs.Fault.{expectedWords, faultsOf, faultsFor, anyFault}
+use Rattle.arrival.specs.Target.{cellFor, isIllegal, isBusy, targetOf}
 use Rattle.decide.specs.Deed.{withheld, wordsStored, wordsSent, actWith, actOf, mayMove, stride, moves, motionWith, motionOf}
 use Rattle.decide.specs.Report.{blockStatus, statusWord, reportOf, interruptWord}
 use Rattle.decide.specs.Plan.{deedOf, entryOf, planOf}

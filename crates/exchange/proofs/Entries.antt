@@ -14,10 +14,10 @@ use Rattle.records.specs.declared.value.Record.{Record}
 use Rattle.words.specs.declared.settings.Settings.{Settings}
 use Rattle.words.proofs.Basics.{yes-or-no}
 use Rattle.words.proofs.SettingsLaws.{settings-agreed}
-use Rattle.memory.specs.declared.window.Window.{Window}
-use Rattle.memory.specs.Window.{aligned}
+use Rattle.windows.specs.declared.window.Window.{Window}
+use Rattle.windows.specs.Window.{aligned}
 use Rattle.cells.specs.Stack.{stackPointer, stackWindow}
-use Rattle.memory.proofs.Wrap.{aligned-pointer, aligned-moved}
+use Rattle.windows.proofs.Wrap.{aligned-pointer, aligned-moved}
 use Rattle.cells.proofs.Block.{stack-nonempty}
 use Rattle.message.specs.Run.{State, stepValue, run, effectOf, effects}
 use Rattle.message.proofs.Step.{stack-moves, entry-stands, block-stays}

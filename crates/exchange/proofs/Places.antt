@@ -11,8 +11,8 @@ use Rattle.words.specs.Command.{subaddressOf}
 use Rattle.words.proofs.Basics.{and-left, and-right}
 use Rattle.memory.specs.Kind.{kindOf}
 use Rattle.cells.specs.Stack.{stackWindow}
-use Rattle.memory.proofs.Wrap.{SameRun}
-use Rattle.decide.specs.Target.{cellFor, targetOf}
+use Rattle.windows.proofs.Wrap.{SameRun}
+use Rattle.arrival.specs.Target.{cellFor, targetOf}
 use Rattle.message.specs.Run.{State, stepValue, run, Effect, effectOf, effects}
 use Rattle.message.proofs.Kept.{Kept}
 use Rattle.exchange.specs.Order.{swapAt, exchangeAll}

@@ -11,18 +11,18 @@ use Rattle.words.specs.declared.settings.Settings.{Settings}
 use Rattle.words.specs.Command.{subaddressOf}
 use Rattle.words.specs.Settings.{isOwn}
 use Rattle.words.proofs.Basics.{eq-or-ne, and-left, and-right}
-use Rattle.memory.specs.declared.window.Window.{Window}
+use Rattle.windows.specs.declared.window.Window.{Window}
 use Rattle.memory.specs.Map.{lookupPlace, controlPlace, stackPointerPlace, busyPlace, illegalPlace, isBusyAt, isIllegalAt}
-use Rattle.memory.specs.Window.{placeOf}
+use Rattle.windows.specs.Window.{placeOf}
 use Rattle.memory.specs.Kind.{cellNumber, kindOf}
 use Rattle.cells.specs.Stack.{stackPointer, stackWindow}
-use Rattle.memory.proofs.Wrap.{SameRun}
+use Rattle.windows.proofs.Wrap.{SameRun}
 use Rattle.cells.proofs.Block.{StackSound, stack-address}
 use Rattle.cells.proofs.Sound.{sound-place}
-use Rattle.cells.proofs.Listed.{number-below}
+use Rattle.memory.proofs.Numbers.{number-below}
 use Rattle.memory.proofs.Places.{lookup-between, control-between, stack-pointer-between, busy-between, illegal-between}
 use Rattle.decide.specs.declared.plan.Deed.{Deed}
-use Rattle.decide.specs.Target.{cellFor, isIllegal, isBusy, targetOf}
+use Rattle.arrival.specs.Target.{cellFor, isIllegal, isBusy, targetOf}
 use Rattle.decide.specs.Plan.{deedOf, entryOf, planOf}
 use Rattle.message.specs.Writes.{writesTo, deedWrites}
 use Rattle.message.specs.Reply.{replyWrites, replyWords}

@@ -13,17 +13,17 @@ use Rattle.words.specs.declared.settings.Settings.{Settings}
 use Rattle.words.specs.Command.{transmits, subaddressOf}
 use Rattle.words.specs.Settings.{isOwn}
 use Rattle.words.proofs.Basics.{lt-or-ge, eq-or-ne, and-left, and-right}
-use Rattle.memory.specs.declared.window.Window.{Window}
+use Rattle.windows.specs.declared.window.Window.{Window}
 use Rattle.memory.specs.Map.{lookupPlace}
-use Rattle.memory.specs.Window.{placeOf, windowsMeet}
+use Rattle.windows.specs.Window.{placeOf, windowsMeet}
 use Rattle.memory.specs.Kind.{kindOf}
 use Rattle.cells.specs.Stack.{stackWindow}
-use Rattle.memory.proofs.Flags.{or-either}
-use Rattle.memory.proofs.Wrap.{place-from, place-below}
-use Rattle.memory.proofs.Meets.{windows-swap, nothing-shared}
+use Rattle.windows.proofs.Flags.{or-either}
+use Rattle.windows.proofs.Wrap.{place-from, place-below}
+use Rattle.windows.proofs.Meets.{windows-swap, nothing-shared}
 use Rattle.cells.proofs.Sound.{FreeAddress, sound-address}
 use Rattle.memory.proofs.Places.{lookup-between, lookup-differs, ordinary-not-lookup, ordinary-not-stack-pointer}
-use Rattle.decide.specs.Target.{cellFor, targetOf}
+use Rattle.arrival.specs.Target.{cellFor, targetOf}
 use Rattle.decide.specs.Plan.{deedOf}
 use Rattle.message.specs.Writes.{deedWrites}
 use Rattle.message.specs.Reply.{replyWords}

@@ -11,7 +11,7 @@ use Rattle.words.specs.declared.settings.Settings.{Settings}
 use Rattle.words.proofs.Basics.{eq-or-ne}
 use Rattle.memory.specs.Map.{stackPointerPlace, bitOf}
 use Rattle.cells.specs.Stack.{stackPointer, stackWindow}
-use Rattle.decide.specs.declared.target.Target.{Target}
+use Rattle.arrival.specs.declared.target.Target.{Target}
 use Rattle.decide.specs.declared.plan.Deed.{Deed}
 use Rattle.decide.specs.Plan.{planOf}
 use Rattle.decide.specs.Report.{interruptWord}

@@ -15,8 +15,8 @@ use Rattle.words.proofs.Refusals.{accepted}
 use Rattle.cells.specs.Stack.{stackWindow}
 use Rattle.cells.proofs.Sound.{cell-facts-sound}
 use Rattle.cells.proofs.Block.{stack-facts-sound}
-use Rattle.cells.proofs.Whole.{AreaFine}
-use Rattle.decide.specs.Target.{cellFor, targetOf}
+use Rattle.area.proofs.Whole.{AreaFine}
+use Rattle.arrival.specs.Target.{cellFor, targetOf}
 use Rattle.decide.specs.Plan.{planOf}
 use Rattle.message.specs.Writes.{descriptorOf}
 use Rattle.message.specs.Reply.{replyWrites, replyWords}

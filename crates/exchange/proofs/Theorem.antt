@@ -10,12 +10,12 @@ use borrow.Author.Tests.{eqb-true, ltb-true, ltb-false, le-leb, lt-ltb, not-true
 use Rattle.records.specs.declared.value.Record.{Record}
 use Rattle.words.specs.declared.settings.Settings.{Settings}
 use Rattle.words.proofs.Basics.{and-left, and-right}
-use Rattle.memory.specs.declared.window.Window.{Window}
+use Rattle.windows.specs.declared.window.Window.{Window}
 use Rattle.memory.specs.Map.{stackPointerPlace}
-use Rattle.cells.specs.Area.{checkArea}
+use Rattle.area.specs.Area.{checkArea}
 use Rattle.cells.specs.Stack.{stackPointer, stackWindow}
 use Rattle.memory.proofs.Places.{stack-pointer-between}
-use Rattle.cells.proofs.Whole.{area-fine}
+use Rattle.area.proofs.Whole.{area-fine}
 use Rattle.message.specs.Answer.{replyRefused}
 use Rattle.message.specs.Run.{State, run}
 use Rattle.message.proofs.Footprint.{Outside}

@@ -8,8 +8,8 @@ use Rattle.words.specs.declared.settings.Settings.{Settings}
 use Rattle.words.specs.Command.{transmits, isModeSubaddress}
 use Rattle.words.specs.Settings.{isNotOurs}
 use Rattle.records.specs.Value.{keepsLayout}
-use Rattle.memory.specs.Window.{windowsMeet}
-use Rattle.decide.specs.Target.{targetOf}
+use Rattle.windows.specs.Window.{windowsMeet}
+use Rattle.arrival.specs.Target.{targetOf}
 use Rattle.exchange.specs.Order.{swapAt}
 
 -- "well-formed data messages for this terminal": the record keeps its layout, the address is ours or broadcast, the

@@ -4,7 +4,7 @@ use mathlib.Core.Bool.{cond}
 use mathlib.Core.List.{List, []}
 use lib.ListN.{length, getD}
 use lib.Dec.{ltb}
-use Rattle.memory.specs.declared.window.Window.{Window}
+use Rattle.windows.specs.declared.window.Window.{Window}
 
 -- place j of the block belongs to the entry that stands this many entries on from the stack pointer, wrapping
 unfoldable pub entriesOn : Window → ℕ → ℕ

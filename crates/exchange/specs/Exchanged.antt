@@ -7,9 +7,9 @@ use lib.ListN.{length, getD}
 use lib.Dec.{ltb, leb, eqb}
 use Rattle.records.specs.declared.value.Record.{Record}
 use Rattle.words.specs.declared.settings.Settings.{Settings}
-use Rattle.memory.specs.declared.window.Window.{Window}
+use Rattle.windows.specs.declared.window.Window.{Window}
 use Rattle.cells.specs.Stack.{stackPointer, stackWindow}
-use Rattle.cells.specs.Area.{checkArea}
+use Rattle.area.specs.Area.{checkArea}
 use Rattle.message.specs.Answer.{replyRefused}
 use Rattle.message.specs.Run.{State, run, Effect, effects}
 use Rattle.exchange.specs.Order.{exchangeAll}

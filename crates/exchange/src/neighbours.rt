@@ -1,10 +1,10 @@
 // What demand 3 asks of a message, and of two that are neighbours.
 ghost use mathlib.Core.Path.{_≡_};
 ghost use Rattle.exchange.specs.Condition.{wellFormed, mayExchange};
-use decide::target::target_of;
-use memory::window::windows_meet;
+use arrival::target::target_of;
 use records::value::Record;
 use records::value::keeps_layout;
+use windows::window::windows_meet;
 use words::choose::both;
 use words::choose::either;
 use words::choose::no;

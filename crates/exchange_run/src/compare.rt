@@ -4,9 +4,9 @@ use crate::play::copy;
 use crate::play::row;
 use crate::play::words_sent;
 use memory::ram::word_at;
-use memory::window::Window;
-use memory::window::aligned_around;
-use memory::window::place;
+use windows::window::Window;
+use windows::window::aligned_around;
+use windows::window::place;
 use words::choose::both;
 
 // The `n` words from `from` on are the same.

@@ -8,7 +8,7 @@ use crate::session::image;
 use crate::session::message_of;
 use crate::session::settings_of;
 use crate::show;
-use cells::area::check_area;
+use area::area::check_area;
 use cells::stack::stack_pointer;
 use cells::stack::stack_window;
 use exchange::neighbours::may_exchange;

@@ -5,7 +5,6 @@ use Rattle.words.proofs.Settled.{determined, Settled}
 use Rattle.memory.proofs.kind
 use Rattle.memory.proofs.map
 use Rattle.memory.proofs.ram
-use Rattle.memory.proofs.window
 
 pub kind-number-settled : Settled 0 kind.kind_number.Kinds.ps kind.kind_number.Kinds.r kind.kind_number.Reads.Post
 kind-number-settled κs a x y v w p q = (determined p q, refl)
@@ -42,24 +41,3 @@ word-at-settled κs a x y v w p q = (determined p q, refl)
 
 pub put-settled : Settled 1 ram.put.Kinds.ps ram.put.Kinds.r ram.put.Reads.Post
 put-settled κs a x y v w p q = (refl, λ i. (determined p q i, v .1))
-
-pub run-from-settled : Settled 0 window.run_from.Kinds.ps window.run_from.Kinds.r window.run_from.Reads.Post
-run-from-settled κs a x y v w p q = (determined p q, refl)
-
-pub aligned-around-settled : Settled 0 window.aligned_around.Kinds.ps window.aligned_around.Kinds.r window.aligned_around.Reads.Post
-aligned-around-settled κs a x y v w p q = (determined p q, refl)
-
-pub place-settled : Settled 0 window.place.Kinds.ps window.place.Kinds.r window.place.Reads.Post
-place-settled κs a x y v w p q = (determined p q, refl)
-
-pub rolls-over-settled : Settled 0 window.rolls_over.Kinds.ps window.rolls_over.Kinds.r window.rolls_over.Reads.Post
-rolls-over-settled κs a x y v w p q = (determined p q, refl)
-
-pub windows-meet-settled : Settled 0 window.windows_meet.Kinds.ps window.windows_meet.Kinds.r window.windows_meet.Reads.Post
-windows-meet-settled κs a x y v w p q = (determined p q, refl)
-
-pub meets-fixed-settled : Settled 0 window.meets_fixed.Kinds.ps window.meets_fixed.Kinds.r window.meets_fixed.Reads.Post
-meets-fixed-settled κs a x y v w p q = (determined p q, refl)
-
-pub fits-below-settled : Settled 0 window.fits_below.Kinds.ps window.fits_below.Kinds.r window.fits_below.Reads.Post
-fits-below-settled κs a x y v w p q = (determined p q, refl)

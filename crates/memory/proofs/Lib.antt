@@ -1,5 +1,3 @@
-pub mod Flags
-pub mod Wrap
-pub mod Meets
 pub mod Places
+pub mod Numbers
 pub mod Determined

@@ -1,3 +1,2 @@
 pub mod Map
 pub mod Kind
-pub mod Window

@@ -1,6 +1,4 @@
-// The second layer, first half: RAM, the memory map, kinds of cell, windows and wrapping inside them.
-// Document 01, "Memory map" and "Cells and windows".
+// The second layer: RAM, the memory map, kinds of cell. Document 01, "Memory map".
 pub mod kind;
 pub mod map;
 pub mod ram;
-pub mod window;

@@ -13,7 +13,7 @@ use Rattle.words.proofs.SettingsLaws.{settings-agreed}
 use Rattle.memory.specs.Map.{ramRefused}
 use Rattle.cells.proofs.Sizes.{cell-sized, window-nonempty}
 use Rattle.cells.proofs.Block.{stack-nonempty}
-use Rattle.decide.specs.Target.{cellFor, targetOf}
+use Rattle.arrival.specs.Target.{cellFor, targetOf}
 use Rattle.message.specs.Answer.{groundsFor, refusalFor}
 use Rattle.decide.specs.Ready.{Ready}
 use Rattle.message.proofs.Sure.{accepted-sure}

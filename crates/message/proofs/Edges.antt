@@ -4,15 +4,15 @@ use mathlib.Core.List.{map}
 use Rattle.words.specs.Command.{wordCount, isModeSubaddress}
 use Rattle.words.specs.Settings.{stackSizeListed, settingsRefused, isOwn, isBroadcast, isNotOurs}
 use Rattle.records.specs.Value.{lastsZero, keepsLayout}
-use Rattle.records.specs.Layout.{fill}
+use Rattle.layout.specs.Layout.{fill}
 use Rattle.words.specs.Refusal.{firstOf, inOrder, firstRefusal}
 use Rattle.memory.specs.Map.{ramRefused, stackPointerPlace, lookupTable, busyPlace, isBusyAt, illegalPlace, isIllegalAt}
 use Rattle.memory.specs.Kind.{cellNumber, kindOf}
-use Rattle.memory.specs.Window.{runFrom, aligned, placeOf, rollsOver, meets, meetsFixed}
+use Rattle.windows.specs.Window.{runFrom, aligned, placeOf, rollsOver, meets, meetsFixed}
 use Rattle.cells.specs.Cell.{controlPart, pickScheme, schemeOf, cellAt, windowOf, doubleFits, soundCell}
 use Rattle.cells.specs.Stack.{stackPointer, stackWindow, stackSound}
-use Rattle.decide.specs.Fault.{expectedWords, faultsOf, faultsFor, anyFault}
-use Rattle.decide.specs.Target.{cellFor, isIllegal, isBusy, targetOf}
+use Rattle.arrival.specs.Fault.{expectedWords, faultsOf, faultsFor, anyFault}
+use Rattle.arrival.specs.Target.{cellFor, isIllegal, isBusy, targetOf}
 use Rattle.decide.specs.Deed.{withheld, wordsStored, wordsSent, actWith, actOf, mayMove, stride, moves, motionWith, motionOf}
 use Rattle.decide.specs.Report.{blockStatus, statusWord, reportOf, interruptWord}
 use Rattle.decide.specs.Plan.{deedOf, entryOf, planOf}

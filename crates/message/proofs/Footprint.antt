@@ -8,7 +8,7 @@ use mathlib.Core.List.{List, [], _∷_, _++_}
 use lib.ListN.{length, getD, set, length-set}
 use lib.Seq.{getD-set-same, getD-set-other, set-out}
 use Rattle.words.proofs.Basics.{lt-or-ge, eq-or-ne}
-use Rattle.memory.specs.declared.window.Window.{Window}
+use Rattle.windows.specs.declared.window.Window.{Window}
 use Rattle.message.specs.Writes.{Write, applyWrites, writesTo}
 use Rattle.message.proofs.Writes.{apply-append, length-apply}
 

@@ -14,20 +14,21 @@ use Rattle.words.specs.Command.{subaddressOf}
 use Rattle.words.proofs.Basics.{lt-or-ge, eq-or-ne}
 use Rattle.memory.specs.declared.kind.Kind.{Kind}
 use Rattle.cells.specs.declared.cell.Cell.{Cell}
-use Rattle.memory.specs.declared.window.Window.{Window}
+use Rattle.windows.specs.declared.window.Window.{Window}
 use Rattle.cells.specs.declared.cell.Scheme.the-variants.{Double}
 use Rattle.memory.specs.Map.{lookupPlace, controlPlace, busyPlace, illegalPlace}
 use Rattle.memory.specs.Kind.{kindNumbered, cellNumber, kindOf}
 use Rattle.cells.specs.Cell.{cellAt, cellWindow}
 use Rattle.cells.specs.Stack.{stackWindow}
-use Rattle.cells.specs.Area.{cellNumbered}
-use Rattle.memory.proofs.Wrap.{SameRun}
+use Rattle.area.specs.Area.{cellNumbered}
+use Rattle.windows.proofs.Wrap.{SameRun}
 use Rattle.cells.proofs.Sound.{CellSound, sound-block}
 use Rattle.cells.proofs.Block.{StackSound, stack-moved-same, stack-moved}
-use Rattle.cells.proofs.Listed.{read-listed, number-below, number-differs}
+use Rattle.memory.proofs.Numbers.{number-below, number-differs}
+use Rattle.area.proofs.Listed.{read-listed}
 use Rattle.memory.proofs.Places.{lookup-between, control-between, stack-pointer-between, busy-between, illegal-between, lookup-differs, lookup-not-control, lookup-not-stack-pointer, control-not-stack-pointer}
-use Rattle.cells.proofs.Whole.{AreaFine, SoundAt}
-use Rattle.decide.specs.Target.{cellFor, targetOf}
+use Rattle.area.proofs.Whole.{AreaFine, SoundAt}
+use Rattle.arrival.specs.Target.{cellFor, targetOf}
 use Rattle.decide.specs.Deed.{actOf, motionOf, moves}
 use Rattle.decide.specs.Plan.{deedOf}
 use Rattle.message.proofs.Sure.{Sure}

@@ -11,13 +11,13 @@ use lib.Dec.{eqb}
 use borrow.Author.Tests.{eqb-true, ltb-false}
 use Rattle.records.specs.declared.value.Record.{Record}
 use Rattle.words.specs.declared.settings.Settings.{Settings}
-use Rattle.records.specs.Layout.{wrongLength, breaksLayout, valueIn}
+use Rattle.layout.specs.Layout.{wrongLength, breaksLayout, valueIn}
 use Rattle.records.specs.Value.{keepsLayout}
 use Rattle.words.proofs.Basics.{yes-or-no}
 use Rattle.words.proofs.Refusals.{accepted}
 use Rattle.memory.specs.Map.{lookupPlace, stackPointerPlace}
 use Rattle.cells.specs.Stack.{stackWindow}
-use Rattle.decide.specs.Target.{targetOf}
+use Rattle.arrival.specs.Target.{targetOf}
 use Rattle.decide.specs.Plan.{planOf}
 use Rattle.message.specs.Reply.{replyWords}
 use Rattle.message.specs.Answer.{groundsFor, refusalFor, ramFor, replyFor}

@@ -12,7 +12,7 @@ use borrow.Author.Tests.{ne-eqb}
 use Rattle.records.specs.declared.value.Record.{Record}
 use Rattle.words.specs.declared.settings.Settings.{Settings}
 use Rattle.words.specs.declared.settings.Remembered.{Remembered}
-use Rattle.records.specs.Layout.{valueIn}
+use Rattle.layout.specs.Layout.{valueIn}
 use Rattle.words.specs.Refusal.{firstOf, inOrder, firstRefusal}
 use Rattle.words.proofs.Basics.{eq-or-ne}
 use Rattle.words.proofs.Refusals.{NoneHolds, First, first-zero, first-number, refusal-small}

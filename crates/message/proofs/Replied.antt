@@ -12,9 +12,9 @@ use Rattle.words.specs.declared.settings.Settings.{Settings}
 use Rattle.words.specs.Command.{transmits}
 use Rattle.words.proofs.Basics.{yes-or-no}
 use Rattle.words.proofs.Commands.{word-count-to}
-use Rattle.memory.specs.Window.{placeOf}
+use Rattle.windows.specs.Window.{placeOf}
 use Rattle.decide.specs.declared.plan.Deed.{Deed}
-use Rattle.decide.specs.declared.target.Target.{Target}
+use Rattle.arrival.specs.declared.target.Target.{Target}
 use Rattle.decide.specs.Deed.{wordsSent, actWith, actOf}
 use Rattle.decide.specs.Plan.{deedOf}
 use Rattle.message.specs.Writes.{Write, applyWrites, writesTo}

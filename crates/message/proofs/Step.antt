@@ -12,18 +12,18 @@ use Rattle.words.specs.declared.settings.Settings.{Settings}
 use Rattle.words.specs.Command.{transmits, subaddressOf}
 use Rattle.words.proofs.Basics.{yes-or-no}
 use Rattle.memory.specs.Map.{lookupPlace, stackPointerPlace}
-use Rattle.memory.specs.Window.{placeOf}
+use Rattle.windows.specs.Window.{placeOf}
 use Rattle.memory.specs.Kind.{kindOf}
 use Rattle.cells.specs.Cell.{cellAt}
 use Rattle.cells.specs.Stack.{stackPointer, stackWindow}
-use Rattle.memory.proofs.Wrap.{place-from, place-below}
+use Rattle.windows.proofs.Wrap.{place-from, place-below}
 use Rattle.cells.proofs.Sizes.{Sized, cell-sized, window-nonempty}
 use Rattle.cells.proofs.Sound.{sound-address}
 use Rattle.cells.proofs.Block.{stack-word-from, stack-word-below, stack-address}
-use Rattle.cells.proofs.Listed.{number-below}
+use Rattle.memory.proofs.Numbers.{number-below}
 use Rattle.memory.proofs.Places.{lookup-between, stack-pointer-between, lookup-not-stack-pointer, ordinary-not-lookup, ordinary-not-stack-pointer}
 use Rattle.decide.specs.declared.plan.Deed.{Deed}
-use Rattle.decide.specs.Target.{cellFor, targetOf}
+use Rattle.arrival.specs.Target.{cellFor, targetOf}
 use Rattle.decide.specs.Deed.{wordsStored, actWith, actOf, motionWith, motionOf}
 use Rattle.decide.specs.Plan.{deedOf, entryOf, planOf}
 use Rattle.message.specs.Writes.{applyWrites, writesTo, dataWrites, pointerWrites, descriptorOf, entryWrites, stackPointerWrites, deedWrites, stackWrites, writesOf}

@@ -18,8 +18,8 @@ use Rattle.cells.specs.Cell.{soundCell}
 use Rattle.cells.specs.Stack.{stackWindow, stackSound}
 use Rattle.cells.proofs.Sound.{CellSound, sound-cell-facts}
 use Rattle.cells.proofs.Block.{StackSound, stack-sound-facts}
-use Rattle.cells.proofs.Whole.{AreaFine, fine-command}
-use Rattle.decide.specs.Target.{cellFor}
+use Rattle.area.proofs.Whole.{AreaFine, fine-command}
+use Rattle.arrival.specs.Target.{cellFor}
 use Rattle.message.specs.Answer.{cellUnsound, groundsFor, refusalFor}
 
 pub record Sure (ram : List ℕ) (s : Settings) (command : ℕ) : Type 0 where

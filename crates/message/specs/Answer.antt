@@ -11,7 +11,7 @@ use Rattle.words.specs.declared.refusal.Grounds.{Grounds}
 use Rattle.words.specs.Command.{isModeSubaddress}
 use Rattle.words.specs.Settings.{settingsRefused, isNotOurs}
 use Rattle.records.specs.Value.{keepsLayout}
-use Rattle.records.specs.Layout.{wrongLength, breaksLayout, valueIn}
+use Rattle.layout.specs.Layout.{wrongLength, breaksLayout, valueIn}
 use Rattle.words.specs.Refusal.{firstRefusal}
 use Rattle.memory.specs.Map.{ramRefused}
 use Rattle.cells.specs.Cell.{soundCell}
@@ -19,7 +19,7 @@ use Rattle.cells.specs.Stack.{stackWindow, stackSound}
 use Rattle.decide.specs.declared.plan.Plan.{Plan}
 use Rattle.message.specs.declared.answer.Answer.{Answer}
 use Rattle.message.specs.declared.answer.Outcome.{Outcome}
-use Rattle.decide.specs.Target.{cellFor}
+use Rattle.arrival.specs.Target.{cellFor}
 use Rattle.decide.specs.Plan.{planOf}
 use Rattle.decide.specs.Report.{interruptWord}
 use Rattle.message.specs.Writes.{applyWrites, writesOf}

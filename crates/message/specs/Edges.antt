@@ -10,11 +10,11 @@ use Rattle.words.specs.declared.settings.Area.the-variants.{A}
 use Rattle.words.specs.Command.{subaddressOf, countField}
 use Rattle.words.specs.Settings.{nothingRemembered, isOwn}
 use Rattle.records.specs.Value.{zeroWords}
-use Rattle.records.specs.Layout.{fill}
+use Rattle.layout.specs.Layout.{fill}
 use Rattle.memory.specs.Map.{illegalPlace, busyPlace}
 use Rattle.message.specs.declared.answer.Answer.{Answer}
 use Rattle.message.specs.declared.answer.Outcome.{Outcome}
-use Rattle.decide.specs.Fault.{expectedWords}
+use Rattle.arrival.specs.Fault.{expectedWords}
 use Rattle.decide.specs.Plan.{planOf}
 use Rattle.message.specs.Writes.{Write, applyWrites, writesTo, writesOf}
 use Rattle.message.specs.Reply.{replyWords}

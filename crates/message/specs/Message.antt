@@ -5,7 +5,7 @@ use lib.ListN.{length}
 use Rattle.records.specs.declared.value.Record.{Record}
 use Rattle.words.specs.declared.settings.Settings.{Settings}
 use Rattle.words.specs.declared.settings.Remembered.{Remembered}
-use Rattle.records.specs.Layout.{valueIn}
+use Rattle.layout.specs.Layout.{valueIn}
 use Rattle.message.specs.declared.answer.Outcome.{Outcome}
 use Rattle.message.specs.Answer.{refusalOfValue, refusalOfBytes, outcomeFor, ramFor, replyFor}
 

@@ -3,8 +3,8 @@ use Prim.Native.Nat.{ℕ, zero, suc, _+_}
 use mathlib.Core.Bool.{Bool, cond}
 use mathlib.Core.List.{List, [], _∷_, map}
 use lib.ListN.{getD}
-use Rattle.memory.specs.declared.window.Window.{Window}
-use Rattle.memory.specs.Window.{placeOf}
+use Rattle.windows.specs.declared.window.Window.{Window}
+use Rattle.windows.specs.Window.{placeOf}
 use Rattle.decide.specs.declared.plan.Deed.{Deed}
 use Rattle.message.specs.Writes.{Write, writesTo, applyWrites}
 

@@ -8,7 +8,7 @@ use Rattle.words.specs.declared.settings.Settings.{Settings}
 use Rattle.words.specs.Command.{isModeSubaddress}
 use Rattle.words.specs.Settings.{settingsRefused, isNotOurs}
 use Rattle.records.specs.Value.{keepsLayout}
-use Rattle.records.specs.Layout.{wrongLength, breaksLayout, valueIn}
+use Rattle.layout.specs.Layout.{wrongLength, breaksLayout, valueIn}
 use Rattle.words.specs.Refusal.{Test}
 use Rattle.memory.specs.Map.{ramRefused}
 use Rattle.cells.specs.Stack.{stackSound}

@@ -5,9 +5,9 @@ use mathlib.Core.List.{List, [], _∷_, _++_}
 use lib.ListN.{getD, set}
 use Rattle.records.specs.declared.value.Record.{Record}
 use Rattle.words.specs.declared.settings.Settings.{Settings}
-use Rattle.memory.specs.declared.window.Window.{Window}
+use Rattle.windows.specs.declared.window.Window.{Window}
 use Rattle.memory.specs.Map.{lookupPlace, stackPointerPlace}
-use Rattle.memory.specs.Window.{placeOf}
+use Rattle.windows.specs.Window.{placeOf}
 use Rattle.decide.specs.declared.plan.Deed.{Deed}
 use Rattle.decide.specs.declared.plan.Entry.{Entry}
 use Rattle.decide.specs.declared.plan.Plan.{Plan}

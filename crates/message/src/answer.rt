@@ -2,12 +2,12 @@
 ghost use mathlib.Core.Path.{_≡_};
 ghost use lib.ListN.{length};
 ghost use Rattle.message.specs.Answer.{cellUnsound, refusalFor, refusedWith, acceptedWith, acceptedOutcome, rememberedFrom};
+use arrival::target::cell_for;
 use cells::cell::sound_cell;
 use cells::stack::stack_sound;
 use cells::stack::stack_window;
 use decide::plan::Plan;
 use decide::report::interrupt_word;
-use decide::target::cell_for;
 use memory::map::ram_refused;
 use records::value::Record;
 use words::choose::no;

@@ -8,9 +8,9 @@ use decide::plan::Plan;
 use memory::map::lookup_table;
 use memory::map::stack_pointer_place;
 use memory::ram::put;
-use memory::window::Window;
-use memory::window::place;
 use records::value::Record;
+use windows::window::Window;
+use windows::window::place;
 use words::settings::Settings;
 
 // The stored words, from the pointer on, wrapping inside the window.

@@ -6,8 +6,8 @@ ghost use Rattle.message.specs.Reply.{sentWrites, replyWrites};
 use decide::plan::Deed;
 use memory::ram::put;
 use memory::ram::word_at;
-use memory::window::Window;
-use memory::window::place;
+use windows::window::Window;
+use windows::window::place;
 
 fn send_words(ram: &[u16], reply: &mut [u16], w: Window, n: u16)
     ensures { λ r. ⌜ now (reply .exit) ≡ applyWrites (sentWrites (now (ram .entry)) w n) (now (reply .entry)) ⌝ }

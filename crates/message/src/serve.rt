@@ -14,7 +14,7 @@ use crate::answer::refused_with;
 use crate::carry::carry_out;
 use crate::reply::send;
 use decide::plan::plan_of;
-use records::reader;
+use layout::reader;
 use records::value::Record;
 use records::value::keeps_layout;
 use words::choose::no;

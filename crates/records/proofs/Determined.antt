@@ -2,19 +2,7 @@
 -- Each line speaks of the contract as the checker reads it (`Reads.Post`), so that none can drift from its function.
 use mathlib.Core.Path.{refl}
 use Rattle.words.proofs.Settled.{determined, Settled}
-use Rattle.records.proofs.reader
-use Rattle.records.proofs.round_trip
 use Rattle.records.proofs.value
-use Rattle.records.proofs.writer
-
-pub read-settled : Settled 1 reader.read.Kinds.ps reader.read.Kinds.r reader.read.Reads.Post
-read-settled κs a x y v w p q = (determined p q, refl)
-
-pub read-written-settled : Settled 0 round_trip.read_written.Kinds.ps round_trip.read_written.Kinds.r round_trip.read_written.Reads.Post
-read-written-settled κs a x y v w p q = (determined p q, refl)
-
-pub write-read-settled : Settled 1 round_trip.write_read.Kinds.ps round_trip.write_read.Kinds.r round_trip.write_read.Reads.Post
-write-read-settled κs a x y v w p q = (determined p q, refl)
 
 pub zero-value-settled : Settled 0 value.zero_value.Kinds.ps value.zero_value.Kinds.r value.zero_value.Reads.Post
 zero-value-settled κs a x y v w p q = (determined p q, refl)
@@ -30,6 +18,3 @@ invalid-word-settled κs a x y v w p q = (determined p q, refl)
 
 pub keeps-layout-settled : Settled 0 value.keeps_layout.Kinds.ps value.keeps_layout.Kinds.r value.keeps_layout.Reads.Post
 keeps-layout-settled κs a x y v w p q = (determined p q, refl)
-
-pub write-settled : Settled 0 writer.write.Kinds.ps writer.write.Kinds.r writer.write.Reads.Post
-write-settled κs a x y v w p q = (determined p q, refl)

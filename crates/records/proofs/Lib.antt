@@ -1,6 +1,2 @@
 pub mod Turns
-pub mod Cases
-pub mod Places
-pub mod Inverse
-pub mod Trips
 pub mod Determined

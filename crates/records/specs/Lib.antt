@@ -1,4 +1,1 @@
 pub mod Value
-pub mod Layout
-pub mod Writing
-pub mod RoundTrip

@@ -1,5 +1,2 @@
-// The bottom layer, second half: the record value, its reader and its writer. Document 01, "Words, records, settings".
-pub mod reader;
-pub mod round_trip;
+// The bottom layer: the record value, its flags and the rules that it keeps. Document 01, "Words, records, settings".
 pub mod value;
-pub mod writer;

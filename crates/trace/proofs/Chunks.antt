@@ -8,7 +8,7 @@ use lib.ListN.{length, take, drop, length-append, length-drop}
 use lib.Seq.{take-append-le, drop-append-le, drop-append-add}
 use Rattle.words.specs.declared.settings.Settings.{Settings}
 use Rattle.message.specs.Run.{stepBytes}
-use Rattle.trace.specs.Line.{lineOf}
+use Rattle.text.specs.Line.{lineOf}
 use Rattle.trace.specs.Walk.{Walk, recordAt, nextNumber, answerTo, wholeRecords, walkRecord, walkTo, walkAll, anew}
 
 -- a record that ends in the first part

@@ -13,11 +13,11 @@ use Rattle.words.specs.declared.settings.Settings.{Settings}
 use Rattle.words.specs.declared.settings.Remembered.{Remembered}
 use Rattle.words.specs.Settings.{nothingRemembered}
 use Rattle.trace.specs.declared.walk.Walked.{Walked}
-use Rattle.trace.specs.Line.{imageLine, namedLine}
+use Rattle.text.specs.Line.{imageLine, namedLine}
 use Rattle.trace.specs.Walk.{Walk, walkAll, walkStart, walkedOf, anew}
 use Rattle.trace.specs.Output.{programSettings, imageRam, lastLines, traceText, programOutput, written, refilled, WholeRefills}
-use Rattle.trace.proofs.Numerals.{decimal-most}
-use Rattle.trace.proofs.Lines.{tail-most, end-most}
+use Rattle.text.proofs.Numerals.{decimal-most}
+use Rattle.text.proofs.Lines.{tail-most, end-most}
 use Rattle.trace.proofs.Walks.{text-most}
 use Rattle.trace.proofs.Chunks.{walk-append, all-anew}
 

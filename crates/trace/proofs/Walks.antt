@@ -11,10 +11,10 @@ use Rattle.words.specs.declared.settings.Settings.{Settings}
 use Rattle.words.specs.declared.settings.Remembered.{Remembered}
 use Rattle.message.specs.Run.{stepBytes}
 use Rattle.trace.specs.declared.walk.Walked.{Walked}
-use Rattle.trace.specs.Line.{lineOf}
+use Rattle.text.specs.Line.{lineOf}
 use Rattle.trace.specs.Walk.{Walk, Leaves, recordAt, nextNumber, answerTo, walkRecord, walkTo, walkStart, walkedOf}
-use Rattle.trace.proofs.Runs.{sets-append}
-use Rattle.trace.proofs.Lines.{line-most}
+use Rattle.text.proofs.Runs.{sets-append}
+use Rattle.text.proofs.Lines.{line-most}
 
 pub walk-more :
     (s : Settings) (trace : List ℕ) (w : Walk) (n : ℕ) →

@@ -8,8 +8,8 @@ use lib.Dec.{ltb}
 use Rattle.words.specs.declared.settings.Settings.{Settings}
 use Rattle.words.specs.declared.settings.Area.the-variants.{A}
 use Rattle.words.specs.Settings.{nothingRemembered}
-use Rattle.records.specs.Layout.{fill, wordAt}
-use Rattle.trace.specs.Line.{tailLine, endLine, imageLine}
+use Rattle.layout.specs.Layout.{fill, wordAt}
+use Rattle.text.specs.Line.{tailLine, endLine, imageLine}
 use Rattle.trace.specs.Walk.{Walk, walkStart, walkAll, anew}
 
 -- "with RT 5, area A, stack 256, overwrite-invalid on and the rest off"

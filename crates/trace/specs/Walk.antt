@@ -11,7 +11,7 @@ use Rattle.message.specs.declared.answer.Answer.{Answer}
 use Rattle.message.specs.Message.{outcomeOfBytes}
 use Rattle.message.specs.Run.{State, stepBytes}
 use Rattle.trace.specs.declared.walk.Walked.{Walked}
-use Rattle.trace.specs.Line.{lineOf}
+use Rattle.text.specs.Line.{lineOf}
 
 -- record n of a trace, counted from 0
 abbrev pub recordAt : List ℕ → ℕ → List ℕ

@@ -1,6 +1,3 @@
-// The fourth layer: walking a trace, its text, and a view of it. Document 01, "Trace program".
-pub mod line;
+// The fourth layer: walking a trace, and the program's whole output. Document 01, "Trace program".
 pub mod output;
-pub mod text;
-pub mod view;
 pub mod walk;

@@ -2,13 +2,13 @@
 ghost use mathlib.Core.Path.{_≡_};
 ghost use Prim.Native.Nat.{_+_, _*_, _<_, _^_};
 ghost use lib.ListN.{length, getD};
-ghost use Rattle.records.specs.Layout.{wordAt};
-ghost use Rattle.trace.specs.Text.{Put};
-ghost use Rattle.trace.specs.Line.{imageLine};
+ghost use Rattle.layout.specs.Layout.{wordAt};
+ghost use Rattle.text.specs.Text.{Put};
+ghost use Rattle.text.specs.Line.{imageLine};
 ghost use Rattle.trace.specs.Output.{programSettings, imageInto, lastLines};
-use crate::line::put_end;
-use crate::line::put_image;
-use crate::line::put_tail;
+use text::line::put_end;
+use text::line::put_image;
+use text::line::put_tail;
 use words::settings::Area;
 use words::settings::Settings;
 

@@ -3,9 +3,9 @@ ghost use mathlib.Core.Path.{_≡_};
 ghost use Prim.Native.Nat.{_≤_, _^_};
 ghost use lib.Seq.{sets};
 ghost use Rattle.trace.specs.Walk.{Leaves, walkStart, walkRecord, walkAll, walkedOf};
-use crate::line::put_line;
 use message::serve::message_from_bytes;
 use std::num::wrapping_add_u64;
+use text::line::put_line;
 use words::settings::Remembered;
 use words::settings::Settings;
 

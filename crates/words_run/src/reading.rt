@@ -1,7 +1,7 @@
 // The reader, on good records, on records with one rule broken, and on both sides of each edge.
 ghost use Prim.Native.Nat.{_<_, _≤_};
 use crate::show;
-use records::reader::Reading;
+use layout::reader::Reading;
 
 // Number, command, tag, flags, count, and the first and last two words.
 fn reading(r: Reading) {

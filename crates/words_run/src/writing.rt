@@ -1,8 +1,8 @@
 // The writer, and both round trips.
 ghost use Prim.Native.Nat.{_≤_};
 use crate::show;
+use layout::writer::Written;
 use records::value::Record;
-use records::writer::Written;
 
 fn value(flags: u8, count: u8, first: u16, last: u16) -> Record {
     let mut words = [0u16; 32];

@@ -4,8 +4,8 @@ use Prim.Native.Nat.{_≤_, _-_, _+_}
 use native.Mathlib.Omega.{arith}
 use mathlib.Core.Path.{_≡_, refl}
 use lib.ListN.{getD, replicate}
-use Rattle.records.specs.Layout.{fill}
-use Rattle.records.proofs.Turns.{fill-more}
+use Rattle.layout.specs.Layout.{fill}
+use Rattle.layout.proofs.Turns.{fill-more}
 use Rattle.boundary.proofs.plain.words_from.Statement.{statement}
 use Rattle.boundary.proofs.plain.words_from.Tie as tie
 

@@ -5,8 +5,8 @@ use mathlib.Core.Path.{_≡_, refl}
 use lib.ListN.{length, length-set}
 use denote.Ref.{now}
 use borrow.Author.Needs.{needs}
-use Rattle.records.proofs.Turns.{fill-more}
-use Rattle.records.specs.Layout.{wordAt, fill}
+use Rattle.layout.proofs.Turns.{fill-more}
+use Rattle.layout.specs.Layout.{wordAt, fill}
 use Rattle.trace.specs.Output.{imageInto}
 use Rattle.trace.proofs.output.load_image.Statement.{statement}
 use Rattle.trace.proofs.output.load_image.Tie as tie

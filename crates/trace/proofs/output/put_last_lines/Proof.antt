@@ -2,8 +2,8 @@
 use native.Mathlib.Omega.{arith}
 use borrow.Author.Needs.{needs}
 use Rattle.trace.specs.Output.{lastLines}
-use Rattle.trace.proofs.Lines.{tail-most}
-use Rattle.trace.proofs.Runs.{put-then}
+use Rattle.text.proofs.Lines.{tail-most}
+use Rattle.text.proofs.Runs.{put-then}
 use Rattle.trace.proofs.output.put_last_lines.Statement.{statement}
 use Rattle.trace.proofs.output.put_last_lines.Tie as tie
 

@@ -1,0 +1,75 @@
+-- The lowest bad number: where none is found none is bad, and the one that is found is bad with none below it.
+use Prim.Native.Nat.{ℕ, zero, suc, _≤_, _<_}
+use native.Mathlib.Omega.{arith}
+use mathlib.Core.Path.{_≡_, refl}
+use mathlib.Core.Logic.{_⊎_, ⊎-elim}
+use mathlib.Core.Bool.{Bool, true, false}
+use lib.Dec.{eqb}
+use borrow.Author.Tests.{eqb-true, eqb-false}
+use Rattle.words.proofs.Basics.{yes-or-no, lt-or-ge}
+use Rattle.area.specs.Area.{orElse, lowest}
+
+-- k is what the search below n finds; number 0 stands for none
+pub record Lowest (bad : ℕ → Bool) (n k : ℕ) : Type 0 where
+  pub none : k ≡ 0 → (j : ℕ) → 0 < j → j < n → bad j ≡ false
+  pub found : 0 < k → bad k ≡ true
+  pub below : 0 < k → k < n
+  pub first : (j : ℕ) → 0 < j → j < k → bad j ≡ false
+
+module _ (bad : ℕ → Bool) where
+  -- one number more
+  none-more :
+      (n : ℕ) → ((j : ℕ) → 0 < j → j < n → bad j ≡ false) → bad n ≡ false →
+      (j : ℕ) → 0 < j → j < suc n → bad j ≡ false
+  none-more n h b j p l =
+      ⊎-elim (λ (k : j < n). h j p k)
+      (λ (k : n ≤ j). let e : j ≡ n = omega arith in rw e b)
+      (lt-or-ge j n)
+
+  -- a number found before stays
+  lowest-kept : (n r : ℕ) → Lowest bad n r → eqb r 0 ≡ false → Lowest bad (suc n) r
+  lowest-kept n r f e =
+      record {
+        none = λ z. absurd (eqb-false r 0 e z);
+        found = f .found;
+        below = λ p. omega (arith, f .below p);
+        first = f .first;
+      }
+
+  lowest-step : (n r : ℕ) (b : Bool) → bad n ≡ b → Lowest bad n r → Lowest bad (suc n) (orElse r b n)
+  unfolding orElse
+  lowest-step n r true b f =
+      ⊎-elim
+      (λ (e : eqb r 0 ≡ true).
+      rw e
+      (record {
+        none = λ z j p l. absurd (omega arith);
+        found = λ p. b;
+        below = λ p. omega arith;
+        first = f .none (eqb-true r 0 e);
+      }))
+      (λ (e : eqb r 0 ≡ false). rw e (lowest-kept n r f e))
+      (yes-or-no (eqb r 0))
+  lowest-step n r false b f =
+      ⊎-elim
+      (λ (e : eqb r 0 ≡ true).
+      rw e
+      (record {
+        none = λ z. none-more n (f .none (eqb-true r 0 e)) b;
+        found = λ p. absurd (omega arith);
+        below = λ p. absurd (omega arith);
+        first = λ j p l. absurd (omega arith);
+      }))
+      (λ (e : eqb r 0 ≡ false). rw e (lowest-kept n r f e))
+      (yes-or-no (eqb r 0))
+
+  pub lowest-is : (n : ℕ) → Lowest bad n (lowest bad n)
+  unfolding lowest
+  lowest-is zero =
+      record {
+        none = λ z j p l. absurd (omega arith);
+        found = λ p. absurd (omega arith);
+        below = λ p. absurd (omega arith);
+        first = λ j p l. absurd (omega arith);
+      }
+  lowest-is (suc n) = lowest-step n (lowest bad n) (bad n) refl (lowest-is n)

@@ -1,0 +1,65 @@
+-- The whole-area check. "The whole-area check answers the first of 1, 3, 8, or 9 with the lowest unsound cell number among
+-- subaddresses 1-30; broadcast cells are read only if separate-broadcast is on."
+use Prim.Native.Nat.{ℕ, zero, suc, _%_}
+use mathlib.Core.Bool.{Bool, true, false, not, cond, _&&_, _||_}
+use mathlib.Core.List.{List}
+use lib.ListN.{length}
+use lib.Dec.{ltb, leb, eqb}
+use Rattle.words.specs.declared.settings.Settings.{Settings}
+use Rattle.words.specs.declared.refusal.Grounds.{Grounds}
+use Rattle.words.specs.Refusal.{firstRefusal}
+use Rattle.words.specs.Settings.{settingsRefused}
+use Rattle.cells.specs.declared.cell.Cell.{Cell}
+use Rattle.windows.specs.declared.window.Window.{Window}
+use Rattle.area.specs.declared.area.Checked.{Checked}
+use Rattle.memory.specs.Map.{ramRefused}
+use Rattle.memory.specs.Kind.{kindNumbered}
+use Rattle.cells.specs.Cell.{cellAt, soundCell}
+use Rattle.cells.specs.Stack.{stackWindow, stackSound}
+
+-- which cells are read, by number and in rising order: "subaddresses 1-30; broadcast cells .. only if separate-broadcast
+-- is on"
+unfoldable pub isRead : Settings → ℕ → Bool
+isRead s number =
+    (leb 1 (number % 32) && leb (number % 32) 30) && (ltb number 64 || (s .«separate_broadcast» && ltb number 96))
+
+-- the cell with this number
+unfoldable pub cellNumbered : List ℕ → Settings → ℕ → Cell
+cellNumbered ram s number = cellAt ram (s .area) (kindNumbered number) (number % 32)
+
+unfoldable pub isUnsound : List ℕ → Settings → Window → ℕ → Bool
+isUnsound ram s stack number = isRead s number && not (soundCell (length ram) stack (cellNumbered ram s number))
+
+-- a number found before stays; else this one if it is bad
+unfoldable pub orElse : ℕ → Bool → ℕ → ℕ
+orElse found bad number = cond (eqb found 0) (cond bad number 0) found
+
+-- the lowest number below n that is bad, or 0 (number 0 is no cell that is read)
+unfoldable pub lowest : (ℕ → Bool) → ℕ → ℕ
+lowest bad zero = 0
+lowest bad (suc n) = orElse (lowest bad n) (bad n) n
+
+unfoldable pub lowestUnsound : List ℕ → Settings → ℕ
+lowestUnsound ram s = lowest (isUnsound ram s (stackWindow ram s)) 96
+
+-- the check is given RAM and settings: 1, 3, 8, 9
+unfoldable pub areaGrounds : List ℕ → Settings → Grounds
+areaGrounds ram s =
+    record {
+      ram = ramRefused (length ram);
+      reply = false;
+      settings = settingsRefused s;
+      length = false;
+      layout = false;
+      address = false;
+      subaddress = false;
+      stack = not (stackSound ram s);
+      cell = not (eqb (lowestUnsound ram s) 0);
+    }
+
+unfoldable pub areaRefusal : List ℕ → Settings → ℕ
+areaRefusal ram s = firstRefusal (areaGrounds ram s)
+
+unfoldable pub checkArea : List ℕ → Settings → Checked
+checkArea ram s =
+    record { number = areaRefusal ram s; cell = cond (eqb (areaRefusal ram s) 9) (lowestUnsound ram s) 0 }

@@ -1,0 +1,43 @@
+-- `faults_of` meets its contract: the same four tests.
+use borrow.Author.Needs.{needs}
+use Rattle.arrival.specs.Fault.{faultsOf}
+use Rattle.arrival.proofs.fault.faults_of.Statement.{statement}
+use Rattle.arrival.proofs.fault.faults_of.Tie as tie
+
+wrong-sync-requires : tie.Need-wrong-sync-requires
+wrong-sync-requires c κs = search needs
+
+invalid-word-requires : tie.Need-invalid-word-requires
+invalid-word-requires c κs = search needs
+
+cast-no : tie.Need-cast-no
+cast-no c = search needs
+
+no-requires : tie.Need-no-requires
+no-requires c κs = search needs
+
+either-requires : tie.Need-either-requires
+either-requires c κs = search needs
+
+no-requires-2 : tie.Need-no-requires-2
+no-requires-2 c κs = search needs
+
+both-requires : tie.Need-both-requires
+both-requires c κs = search needs
+
+returns : tie.Need-returns
+unfolding faultsOf
+returns c = cc
+
+pub faults-of-spec : {M : Type 1} → statement M
+faults-of-spec =
+    tie.close
+    (tie.spec
+    wrong-sync-requires
+    invalid-word-requires
+    cast-no
+    no-requires
+    either-requires
+    no-requires-2
+    both-requires
+    returns)

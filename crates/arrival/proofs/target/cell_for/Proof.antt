@@ -1,0 +1,21 @@
+-- `cell_for` meets its contract: the cell of the command's kind and subaddress.
+use borrow.Author.Needs.{needs}
+use Rattle.arrival.specs.Target.{cellFor}
+use Rattle.arrival.proofs.target.cell_for.Statement.{statement}
+use Rattle.arrival.proofs.target.cell_for.Tie as tie
+
+kind-of-requires : tie.Need-kind-of-requires
+kind-of-requires c κs = search needs
+
+subaddress-requires : tie.Need-subaddress-requires
+subaddress-requires c κs = search needs
+
+cell-at-requires : tie.Need-cell-at-requires
+cell-at-requires c κs = search needs
+
+returns : tie.Need-returns
+unfolding cellFor
+returns c = cc
+
+pub cell-for-spec : {M : Type 1} → statement M
+cell-for-spec = tie.close (tie.spec kind-of-requires subaddress-requires cell-at-requires returns)

@@ -1,0 +1,189 @@
+-- What stands at each place of a record's bytes and words: the definitions of Layout, Value and Writing, place by place.
+use Prim.Native.Nat.{ℕ, zero, suc, _+_, _*_, _/_, _%_, _<_, _≤_}
+use native.Mathlib.Omega.{arith}
+use mathlib.Core.Path.{_≡_, refl, _∙_}
+use mathlib.Core.Logic.{_↔_, ⊎-elim}
+use mathlib.Core.Bool.{true, false, _&&_, or-true}
+use mathlib.Core.List.{List}
+use lib.ListN.{length, getD, set, length-set}
+use lib.Seq.{getD-set-same, getD-set-other}
+use lib.Dec.{ltb, leb}
+use borrow.Author.Tests.{eq-eqb, eqb-true, lt-ltb, le-ltb, le-leb, leb-true, not-false}
+use Rattle.records.specs.declared.value.Record.{Record}
+use Rattle.records.specs.Value.{lastsZero, keepsLayout}
+use Rattle.layout.specs.Layout.{areZero, fill, valueIn, breaksLayout}
+use Rattle.layout.specs.Writing.{putWords}
+use Rattle.words.proofs.Basics.{lt-or-ge, eq-or-ne, and-left, and-right}
+
+pub length-fill : (f : ℕ → ℕ) (xs : List ℕ) (n : ℕ) → length (fill f xs n) ≡ length xs
+unfolding fill
+length-fill f xs zero = refl
+length-fill f xs (suc n) = simp length-set (length-fill f xs n)
+
+pub fill-at : (f : ℕ → ℕ) (xs : List ℕ) (n k : ℕ) → n ≤ length xs → k < n → getD (fill f xs n) k 0 ≡ f k
+unfolding fill
+fill-at f xs zero k h l = omega arith
+fill-at f xs (suc n) k h l =
+    ⊎-elim
+    (λ e.
+    let p : n < length (fill f xs n) = omega (arith, length-fill f xs n) in
+    rw e (getD-set-same (fill f xs n) n (f n) 0 p))
+    (λ ne. getD-set-other (fill f xs n) n k (f n) 0 ne ∙ fill-at f xs n k (omega arith) (omega arith))
+    (eq-or-ne k n)
+
+pub length-put : (s words : List ℕ) (n : ℕ) → length (putWords s words n) ≡ length s
+unfolding putWords
+length-put s words zero = refl
+length-put s words (suc n) = simp length-set (length-put s words n)
+
+-- a place that no word reaches
+pub put-before : (s words : List ℕ) (n k : ℕ) → k < 16 → getD (putWords s words n) k 0 ≡ getD s k 0
+unfolding putWords
+put-before s words zero k l = refl
+put-before s words (suc n) k l =
+    let p : (k ≡ 16 + 2 * n + 1 → ⊥) = λ e. omega arith in
+    let q : (k ≡ 16 + 2 * n → ⊥) = λ e. omega arith in
+    rw (getD-set-other, getD-set-other) (put-before s words n k l)
+
+-- the high byte of word k
+pub put-high :
+    (s words : List ℕ) (n k : ℕ) → length s ≡ 80 → n ≤ 32 → k < n →
+    getD (putWords s words n) (16 + 2 * k) 0 ≡ getD words k 0 / 256 % 256
+unfolding putWords
+put-high s words zero k e h l = omega arith
+put-high s words (suc n) k e h l =
+    let o : (16 + 2 * k ≡ 16 + 2 * n + 1 → ⊥) = λ x. omega arith in
+    ⊎-elim
+    (λ same.
+    let p : 16 + 2 * n < length (putWords s words n) = omega (arith, length-put s words n) in
+    rw getD-set-other (rw same (getD-set-same (putWords s words n) (16 + 2 * n) _ 0 p)))
+    (λ ne.
+    let q : (16 + 2 * k ≡ 16 + 2 * n → ⊥) = λ x. ne (omega arith) in
+    rw (getD-set-other, getD-set-other) (put-high s words n k e (omega arith) (omega arith)))
+    (eq-or-ne k n)
+
+-- the low byte of word k
+pub put-low :
+    (s words : List ℕ) (n k : ℕ) → length s ≡ 80 → n ≤ 32 → k < n →
+    getD (putWords s words n) (16 + 2 * k + 1) 0 ≡ getD words k 0 % 256
+unfolding putWords
+put-low s words zero k e h l = omega arith
+put-low s words (suc n) k e h l =
+    ⊎-elim
+    (λ same.
+    let p : 16 + 2 * n + 1 < length (set (putWords s words n) (16 + 2 * n) (getD words n 0 / 256 % 256)) = simp length-set (omega (arith, length-put s words n)) in
+    rw same (getD-set-same (set (putWords s words n) (16 + 2 * n) (getD words n 0 / 256 % 256)) (16 + 2 * n + 1) _ 0 p))
+    (λ ne.
+    let q : (16 + 2 * k + 1 ≡ 16 + 2 * n + 1 → ⊥) = λ x. ne (omega arith) in
+    let o : (16 + 2 * k + 1 ≡ 16 + 2 * n → ⊥) = λ x. omega arith in
+    rw (getD-set-other, getD-set-other) (put-low s words n k e (omega arith) (omega arith)))
+    (eq-or-ne k n)
+
+pub are-zero-at : (s : List ℕ) (from n k : ℕ) → areZero s from n ≡ true → k < n → getD s (from + k) 0 ≡ 0
+unfolding areZero
+are-zero-at s from zero k e l = omega arith
+are-zero-at s from (suc n) k e l =
+    ⊎-elim
+    (λ same. rw same (eqb-true _ _ (and-right (areZero s from n) _ e)))
+    (λ ne. are-zero-at s from n k (and-left _ _ e) (omega arith))
+    (eq-or-ne k n)
+
+pub are-zero-of :
+    (s : List ℕ) (from n : ℕ) → ((k : ℕ) → k < n → getD s (from + k) 0 ≡ 0) → areZero s from n ≡ true
+unfolding areZero
+are-zero-of s from zero h = refl
+are-zero-of s from (suc n) h =
+    simp (are-zero-of s from n (λ k l. h k (omega arith)), eq-eqb (getD s (from + n) 0) 0 (h n (omega arith)))
+
+pub lasts-zero-at :
+    (words : List ℕ) (count n k : ℕ) → lastsZero words count n ≡ true → k < n → count ≤ k → getD words k 0 ≡ 0
+unfolding lastsZero
+lasts-zero-at words count zero k e l h = omega arith
+lasts-zero-at words count (suc n) k e l h =
+    ⊎-elim
+    (λ same.
+    let late : ltb n count ≡ false = le-ltb n count (omega arith) in
+    rw same (eqb-true (getD words n 0) 0 (simp late at (and-right (lastsZero words count n) _ e))))
+    (λ ne. lasts-zero-at words count n k (and-left _ _ e) (omega arith) h)
+    (eq-or-ne k n)
+
+pub lasts-zero-of :
+    (words : List ℕ) (count n : ℕ) → ((k : ℕ) → count ≤ k → k < n → getD words k 0 ≡ 0) → lastsZero words count n ≡ true
+unfolding lastsZero
+lasts-zero-of words count zero h = refl
+lasts-zero-of words count (suc n) h =
+    rw (lasts-zero-of words count n (λ k a l. h k a (omega arith)))
+    (⊎-elim
+    (λ early. rw (lt-ltb n count early))
+    (λ late. rw (eq-eqb (getD words n 0) 0 (h n late (omega arith))) (or-true (ltb n count)))
+    (lt-or-ge n count))
+
+-- the rules of a record value, one by one
+pub record Lawful (v : Record) : Type 0 where
+  pub flags : v .flags ≤ 7
+  pub count : v .count ≤ 33
+  pub rest : (k : ℕ) → v .count ≤ k → k < 32 → getD (v .words) k 0 ≡ 0
+
+lawful-of : (v : Record) → keepsLayout v ≡ true → Lawful v
+unfolding keepsLayout
+lawful-of v e =
+    let limits = and-left (leb (v .flags) 7 && leb (v .count) 33) (lastsZero (v .words) (v .count) 32) e in
+    record {
+      flags = leb-true (v .flags) 7 (and-left (leb (v .flags) 7) (leb (v .count) 33) limits);
+      count = leb-true (v .count) 33 (and-right (leb (v .flags) 7) (leb (v .count) 33) limits);
+      rest =
+          λ k a l.
+          lasts-zero-at (v .words) (v .count) 32 k
+          (and-right (leb (v .flags) 7 && leb (v .count) 33) (lastsZero (v .words) (v .count) 32) e)
+          l a;
+    }
+
+keeps-of : (v : Record) → Lawful v → keepsLayout v ≡ true
+unfolding keepsLayout
+keeps-of v h =
+    rw (le-leb (v .flags) 7 (h .flags), le-leb (v .count) 33 (h .count)) (lasts-zero-of (v .words) (v .count) 32 (h .rest))
+
+-- a value keeps the layout exactly when it keeps each rule
+pub keeps-layout : (v : Record) → (keepsLayout v ≡ true) ↔ Lawful v
+keeps-layout v = (lawful-of v, keeps-of v)
+
+-- the parts of a layout that is kept
+pub record Kept (s : List ℕ) : Type 0 where
+  pub gap : areZero s 2 2 ≡ true
+  pub gaps : areZero s 8 8 ≡ true
+  pub value : keepsLayout (valueIn s) ≡ true
+
+pub layout-kept : (s : List ℕ) → breaksLayout s ≡ false → Kept s
+unfolding breaksLayout
+layout-kept s b =
+    let all = not-false ((areZero s 2 2 && areZero s 8 8) && keepsLayout (valueIn s)) b in
+    let zeros = and-left (areZero s 2 2 && areZero s 8 8) (keepsLayout (valueIn s)) all in
+    record {
+      gap = and-left (areZero s 2 2) (areZero s 8 8) zeros;
+      gaps = and-right (areZero s 2 2) (areZero s 8 8) zeros;
+      value = and-right (areZero s 2 2 && areZero s 8 8) (keepsLayout (valueIn s)) all;
+    }
+
+-- the layout, rule by rule
+pub record LaidOut (s : List ℕ) : Type 0 where
+  pub gap : (k : ℕ) → k < 2 → getD s (2 + k) 0 ≡ 0
+  pub gaps : (k : ℕ) → k < 8 → getD s (8 + k) 0 ≡ 0
+  pub value : Lawful (valueIn s)
+
+laid-out-of : (s : List ℕ) → breaksLayout s ≡ false → LaidOut s
+laid-out-of s b =
+    let g = layout-kept s b in
+    record {
+      gap = λ k l. are-zero-at s 2 2 k (g .gap) l;
+      gaps = λ k l. are-zero-at s 8 8 k (g .gaps) l;
+      value = lawful-of (valueIn s) (g .value);
+    }
+
+unbroken-of : (s : List ℕ) → LaidOut s → breaksLayout s ≡ false
+unfolding breaksLayout
+unbroken-of s h =
+    rw (are-zero-of s 2 2 (h .gap), are-zero-of s 8 8 (h .gaps), keeps-of (valueIn s) (h .value))
+
+-- 80 bytes keep the layout exactly when they keep each rule
+pub laid-out : (s : List ℕ) → (breaksLayout s ≡ false) ↔ LaidOut s
+laid-out s = (laid-out-of s, unbroken-of s)

@@ -1,0 +1,35 @@
+-- `value_in` meets its contract: each field from its place.
+use borrow.Author.Needs.{needs}
+use Rattle.layout.specs.Layout.{valueIn}
+use Rattle.layout.proofs.reader.value_in.Statement.{statement}
+use Rattle.layout.proofs.reader.value_in.Tie as tie
+
+words-in-requires : tie.Need-words-in-requires
+words-in-requires c κs = search needs
+
+word-at-requires : tie.Need-word-at-requires
+word-at-requires c κs = search needs
+
+word-at-requires-2 : tie.Need-word-at-requires-2
+word-at-requires-2 c κs = search needs
+
+shared-slice-read-t6 : tie.Need-shared-slice-read-t6
+shared-slice-read-t6 c = search needs
+
+shared-slice-read-t8 : tie.Need-shared-slice-read-t8
+shared-slice-read-t8 c = search needs
+
+returns : tie.Need-returns
+unfolding valueIn
+returns c = cc
+
+pub value-in-spec : {M : Type 1} → statement M
+value-in-spec =
+    tie.close
+    (tie.spec
+    words-in-requires
+    word-at-requires
+    word-at-requires-2
+    shared-slice-read-t6
+    shared-slice-read-t8
+    returns)

@@ -1,0 +1,34 @@
+-- `write` meets its contract: each way out is a case of the writer.
+use mathlib.Core.Path.{_≡_}
+use mathlib.Core.Bool.{true, false}
+use Rattle.records.specs.Value.{keepsLayout}
+use Rattle.layout.proofs.Cases.{write-layout, write-good}
+use borrow.Author.Needs.{needs}
+use Rattle.layout.specs.Writing.{bytesOf}
+use Rattle.layout.proofs.writer.write.Statement.{statement}
+use Rattle.layout.proofs.writer.write.Tie as tie
+
+keeps-layout-requires : tie.Need-keeps-layout-requires
+keeps-layout-requires c κs = search needs
+
+header-of-requires : tie.Need-header-of-requires
+header-of-requires c κs = search needs
+
+put-words-requires : tie.Need-put-words-requires
+put-words-requires c κs = search needs
+
+returns : tie.Need-returns
+unfolding bytesOf
+returns c =
+    let b : keepsLayout (c .before .before .before .before .before .args .v) ≡ true = cc in
+    cc (write-good _ b)
+
+returns-2 : tie.Need-returns-2
+returns-2 c =
+    let b : keepsLayout (c .before .before .args .v) ≡ false = cc in
+    cc (write-layout _ b)
+
+pub write-spec : {M : Type 1} → statement M
+write-spec =
+    tie.close
+    (tie.spec keeps-layout-requires header-of-requires put-words-requires returns returns-2)

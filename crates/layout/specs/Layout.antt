@@ -1,0 +1,52 @@
+-- The 80 bytes of a message record, and what reading them gives.
+use Prim.Native.Nat.{ℕ, zero, suc, _+_, _*_}
+use mathlib.Core.Bool.{Bool, true, not, cond, _&&_}
+use mathlib.Core.List.{List, [], _∷_}
+use lib.ListN.{length, getD, set}
+use lib.Dec.{eqb}
+use Rattle.records.specs.declared.value.Record.{Record}
+use Rattle.layout.specs.declared.reader.Reading.{Reading}
+use Rattle.records.specs.Value.{zeroWords, zeroValue, keepsLayout}
+use Rattle.words.specs.Refusal.{firstOf}
+
+-- "numbers high byte first": the word whose high byte is byte i
+abbrev pub wordAt : List ℕ → ℕ → ℕ
+wordAt s i = getD s i 0 * 256 + getD s (i + 1) 0
+
+-- the n bytes from `from` on are zero
+unfoldable pub areZero : List ℕ → ℕ → ℕ → Bool
+areZero s from zero = true
+areZero s from (suc n) = areZero s from n && eqb (getD s (from + n) 0) 0
+
+-- the list xs with f k at each place k below n
+unfoldable pub fill : (ℕ → ℕ) → List ℕ → ℕ → List ℕ
+fill f xs zero = xs
+fill f xs (suc n) = set (fill f xs n) n (f n)
+
+-- "16-79 thirty-two words"
+unfoldable pub wordsIn : List ℕ → List ℕ
+wordsIn s = fill (λ k. wordAt s (16 + 2 * k)) zeroWords 32
+
+-- "Bytes 0-1 command; .. 4-5 time tag; 6 flags; 7 count; .. 16-79 thirty-two words."
+unfoldable pub valueIn : List ℕ → Record
+valueIn s =
+    record { command = wordAt s 0; tag = wordAt s 4; flags = getD s 6 0; count = getD s 7 0; words = wordsIn s }
+
+-- "2-3 zero; .. 8-15 zero", and the rules of the value
+unfoldable pub breaksLayout : List ℕ → Bool
+breaksLayout s = not ((areZero s 2 2 && areZero s 8 8) && keepsLayout (valueIn s))
+
+-- "record is not 80 bytes"
+abbrev pub wrongLength : List ℕ → Bool
+wrongLength s = not (eqb (length s) 80)
+
+-- "Result: the number, the rest zero"
+unfoldable pub notRead : ℕ → Reading
+notRead n = record { number = n; value = zeroValue }
+
+-- the reader's tests, in the table's order
+unfoldable pub readerRefusal : List ℕ → ℕ
+readerRefusal s = firstOf (record { number = 4; holds = wrongLength s } ∷ record { number = 5; holds = breaksLayout s } ∷ [])
+
+unfoldable pub readRecord : List ℕ → Reading
+readRecord s = cond (eqb (readerRefusal s) 0) (record { number = 0; value = valueIn s }) (notRead (readerRefusal s))

@@ -1,0 +1,100 @@
+// The record reader: 80 bytes to a value, or refusal 4 or 5.
+ghost use mathlib.Core.Path.{_≡_};
+ghost use Prim.Native.Nat.{_+_, _*_, _≤_};
+ghost use lib.ListN.{length};
+ghost use Rattle.layout.specs.Layout.{wordAt, areZero, wordsIn, valueIn, breaksLayout, readRecord, notRead};
+use records::value::Record;
+use records::value::keeps_layout;
+use records::value::zero_value;
+use words::choose::both;
+use words::choose::no;
+
+// What reading gives: the number, and the value where it is 0.
+pub struct Reading {
+    pub number: u16,
+    pub value: Record,
+}
+
+fn join(high: u8, low: u8) -> u16
+    ensures { λ r. ⌜ r ≡ high * 256 + low ⌝ }
+{
+    (high as u16) * 256 + (low as u16)
+}
+
+fn word_at(s: &[u8], i: usize) -> u16
+    requires { ⌜ (length (now s) ≡ 80) × (i ≤ 78) ⌝ }
+    ensures { λ r. ⌜ r ≡ wordAt (now (s .entry)) i ⌝ }
+{
+    join(s[i], s[i + 1])
+}
+
+// Whether the `n` bytes from `from` on are zero.
+fn are_zero(s: &[u8], from: usize, n: usize) -> bool
+    requires { ⌜ (length (now s) ≡ 80) × (from + n ≤ 80) ⌝ }
+    ensures { λ r. ⌜ r ≡ areZero (now (s .entry)) from n ⌝ }
+{
+    let mut ok = true;
+    let mut i: usize = 0;
+    while i < n {
+        ok = both(ok, s[from + i] == 0);
+        i += 1;
+    }
+    ok
+}
+
+fn words_in(s: &[u8]) -> [u16; 32]
+    requires { ⌜ length (now s) ≡ 80 ⌝ }
+    ensures { λ r. ⌜ r ≡ wordsIn (now (s .entry)) ⌝ }
+{
+    let mut words = [0u16; 32];
+    let mut i: usize = 0;
+    while i < 32 {
+        words[i] = word_at(s, 16 + 2 * i);
+        i += 1;
+    }
+    words
+}
+
+fn value_in(s: &[u8]) -> Record
+    requires { ⌜ length (now s) ≡ 80 ⌝ }
+    ensures { λ r. ⌜ r ≡ valueIn (now (s .entry)) ⌝ }
+{
+    let words = words_in(s);
+    Record {
+        command: word_at(s, 0),
+        tag: word_at(s, 4),
+        flags: s[6],
+        count: s[7],
+        words,
+    }
+}
+
+fn breaks_layout(s: &[u8], v: Record) -> bool
+    requires { ⌜ (length (now s) ≡ 80) × (v ≡ valueIn (now s)) ⌝ }
+    ensures { λ r. ⌜ r ≡ breaksLayout (now (s .entry)) ⌝ }
+{
+    no(both(both(are_zero(s, 2, 2), are_zero(s, 8, 8)), keeps_layout(v)))
+}
+
+fn not_read(number: u16) -> Reading
+    ensures { λ r. ⌜ r ≡ notRead number ⌝ }
+{
+    let value = zero_value();
+    Reading { number, value }
+}
+
+pub fn read(s: &[u8]) -> Reading
+    ensures { λ r. ⌜ r ≡ readRecord (now (s .entry)) ⌝ }
+{
+    if s.len() != 80 {
+        return not_read(4);
+    }
+    let v = value_in(s);
+    if breaks_layout(s, v) {
+        return not_read(5);
+    }
+    Reading {
+        number: 0,
+        value: v,
+    }
+}

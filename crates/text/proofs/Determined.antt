@@ -1,0 +1,22 @@
+-- The inputs determine the answer: for each public function, any two results that its contract allows are equal, and so are any
+-- two last values of each lent word. Each line speaks of the contract as the checker reads it (`Reads.Post`), so that none can
+-- drift from its function.
+use mathlib.Core.Path.{refl}
+use Rattle.words.proofs.Settled.{determined, Settled}
+use Rattle.text.proofs.line
+
+pub put-line-settled : Settled 1 line.put_line.Kinds.ps line.put_line.Kinds.r line.put_line.Reads.Post
+put-line-settled κs a x y v w p q =
+    (determined (p .place) (q .place), λ i. (determined (p .bytes) (q .bytes) i, v .1))
+
+pub put-tail-settled : Settled 1 line.put_tail.Kinds.ps line.put_tail.Kinds.r line.put_tail.Reads.Post
+put-tail-settled κs a x y v w p q =
+    (determined (p .place) (q .place), λ i. (determined (p .bytes) (q .bytes) i, v .1))
+
+pub put-end-settled : Settled 1 line.put_end.Kinds.ps line.put_end.Kinds.r line.put_end.Reads.Post
+put-end-settled κs a x y v w p q =
+    (determined (p .place) (q .place), λ i. (determined (p .bytes) (q .bytes) i, v .1))
+
+pub put-image-settled : Settled 1 line.put_image.Kinds.ps line.put_image.Kinds.r line.put_image.Reads.Post
+put-image-settled κs a x y v w p q =
+    (determined (p .place) (q .place), λ i. (determined (p .bytes) (q .bytes) i, v .1))

@@ -1,0 +1,64 @@
+-- How long a line is.
+use Prim.Native.Nat.{ℕ, _+_, _≤_}
+use native.Mathlib.Omega.{arith}
+use mathlib.Core.Path.{_≡_, refl}
+use mathlib.Core.Logic.{⊎-elim}
+use mathlib.Core.Bool.{Bool, true, false}
+use lib.ListN.{length, length-append}
+use lib.Dec.{eqb}
+use borrow.Author.Tests.{eqb-true}
+use Rattle.words.proofs.Basics.{yes-or-no}
+use Rattle.message.specs.declared.answer.Answer.{Answer}
+use Rattle.text.specs.Text.{decimalText, digits, placesUpTo}
+use Rattle.text.specs.Line.{statusText, noneText, startText, threeWords, acceptedLine, refusedLine, lineOf, namedLine, tailLine, endLine}
+use Rattle.text.proofs.Runs.{length-hex}
+use Rattle.text.proofs.Numerals.{decimal-most}
+
+pub length-status : (answered : Bool) (status : ℕ) → length (statusText answered status) ≡ 4
+unfolding statusText noneText
+length-status true status = length-hex status
+length-status false status = refl
+
+pub length-start : (number refusal : ℕ) → length (startText number refusal) ≤ 41
+unfolding startText
+length-start number refusal =
+    rw length-append (omega (arith, decimal-most number, decimal-most refusal))
+
+pub length-three : (x y z : ℕ) → length (threeWords x y z) ≡ 15
+unfolding threeWords
+length-three x y z = simp (length-append, length-hex) (omega arith)
+
+-- an accepted record's number is 0, one digit
+length-start-none : (number : ℕ) → length (startText number 0) ≤ 22
+unfolding startText decimalText digits placesUpTo
+length-start-none number = rw length-append (omega (arith, decimal-most number))
+
+accepted-most : (number : ℕ) (a : Answer) → a .number ≡ 0 → length (acceptedLine number a) ≤ 72
+unfolding acceptedLine
+accepted-most number a e =
+    simp (e, length-append, length-three, length-status, length-hex)
+    (omega (arith, length-start-none number, decimal-most (a .sent)))
+
+refused-most : (number refusal : ℕ) → length (refusedLine number refusal) ≤ 72
+unfolding refusedLine
+refused-most number refusal = rw length-append (omega (arith, length-start number refusal))
+
+-- a record's line is shorter than its record
+pub line-most : (number : ℕ) (a : Answer) → length (lineOf number a) ≤ 72
+unfolding lineOf
+line-most number a =
+    ⊎-elim (λ (e : eqb (a .number) 0 ≡ true). rw e (accepted-most number a (eqb-true (a .number) 0 e)))
+    (λ (e : eqb (a .number) 0 ≡ false). rw e (refused-most number (a .number)))
+    (yes-or-no (eqb (a .number) 0))
+
+-- a tail's line is short
+pub tail-most : (n : ℕ) → length (tailLine n) ≤ 26
+unfolding tailLine namedLine
+tail-most n =
+    ⊎-elim (λ (e : eqb n 0 ≡ true). rw e (omega arith))
+    (λ (e : eqb n 0 ≡ false). rw e (simp length-append (omega (arith, decimal-most n))))
+    (yes-or-no (eqb n 0))
+
+pub end-most : (n : ℕ) → length (endLine n) ≤ 26
+unfolding endLine namedLine
+end-most n = simp length-append (omega (arith, decimal-most n))

@@ -1,0 +1,53 @@
+-- `put_accepted` meets its contract.
+use borrow.Author.Needs.{needs}
+use Rattle.text.specs.Line.{acceptedLine}
+use Rattle.text.proofs.Runs.{put-then}
+use Rattle.text.proofs.line.put_accepted.Statement.{statement}
+use Rattle.text.proofs.line.put_accepted.Tie as tie
+
+put-start-requires : tie.Need-put-start-requires
+put-start-requires c κs = search needs
+
+put-three-requires : tie.Need-put-three-requires
+put-three-requires c κs = search needs
+
+put-status-requires : tie.Need-put-status-requires
+put-status-requires c κs = search needs
+
+cast-put-number : tie.Need-cast-put-number
+cast-put-number c = search needs
+
+put-number-requires : tie.Need-put-number-requires
+put-number-requires c κs = search needs
+
+put-word-requires : tie.Need-put-word-requires
+put-word-requires c κs = search needs
+
+put-newline-requires : tie.Need-put-newline-requires
+put-newline-requires c κs = search needs
+
+same-length : tie.Need-same-length
+same-length c = search needs
+
+returns : tie.Need-returns
+unfolding acceptedLine
+returns c =
+    put-then
+    (put-then
+    (put-then (put-then (put-then (c .before .before .before .before .before .before .before .before .before .before .before .before .before .before .before .before .before .before .before .before .before .before .before .put-start .ensures .0) (c .before .before .before .before .before .before .before .before .before .before .before .before .before .before .before .before .before .before .before .put-three .ensures .0)) (c .before .before .before .before .before .before .before .before .before .before .before .before .before .before .before .put-status .ensures .0)) (c .before .before .before .before .before .before .before .before .before .before .put-number .ensures .0))
+    (c .before .before .before .before .before .before .put-word .ensures .0))
+    (c .before .before .put-newline .ensures)
+
+pub put-accepted-spec : {M : Type 1} → statement M
+put-accepted-spec =
+    tie.close
+    (tie.spec
+    put-start-requires
+    put-three-requires
+    put-status-requires
+    cast-put-number
+    put-number-requires
+    put-word-requires
+    put-newline-requires
+    same-length
+    returns)

@@ -1,0 +1,3 @@
+// The fourth layer: the lines that the trace program prints, as bytes. Document 01, "Trace program".
+pub mod line;
+pub mod text;

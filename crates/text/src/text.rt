@@ -1,0 +1,84 @@
+// Text into a lent buffer. A byte past the buffer's end is dropped, as in the definition.
+ghost use mathlib.Core.Path.{_≡_};
+ghost use Prim.Native.Nat.{_+_, _≤_, _<_, _^_};
+ghost use lib.ListN.{length, set};
+ghost use lib.Seq.{sets};
+ghost use Rattle.text.specs.Text.{Put, hexDigit, hexText, digits, placesUpTo, decimalText};
+
+pub(crate) fn put_byte(out: &mut [u8], at: usize, b: u8)
+    ensures { λ r. ⌜ now (out .exit) ≡ set (now (out .entry)) at b ⌝ }
+{
+    if at < out.len() {
+        out[at] = b;
+    }
+}
+
+// The bytes of `s` at `at`, and the place after them.
+pub(crate) fn put_bytes(out: &mut [u8], at: usize, s: &[u8]) -> usize
+    requires { ⌜ (at ≤ 2 ^ 63 + 1024) × (length (now s) ≤ 21) ⌝ }
+    ensures { λ r. ⌜ Put (now (out .entry)) at (now (s .entry)) (now (out .exit)) r ⌝ }
+{
+    let mut i: usize = 0;
+    while i < s.len() {
+        put_byte(out, at + i, s[i]);
+        i += 1;
+    }
+    at + i
+}
+
+fn hex_digit(d: u16) -> u8
+    requires { ⌜ d < 16 ⌝ }
+    ensures { λ r. ⌜ r ≡ hexDigit d ⌝ }
+{
+    if d < 10 { 48 + d as u8 } else { 55 + d as u8 }
+}
+
+// Four hexadecimal digits, and the place after them.
+pub(crate) fn put_hex(out: &mut [u8], at: usize, w: u16) -> usize
+    requires { ⌜ at ≤ 2 ^ 63 + 1024 ⌝ }
+    ensures { λ r. ⌜ Put (now (out .entry)) at (hexText w) (now (out .exit)) r ⌝ }
+{
+    put_byte(out, at, hex_digit(w / 4096 % 16));
+    put_byte(out, at + 1, hex_digit(w / 256 % 16));
+    put_byte(out, at + 2, hex_digit(w / 16 % 16));
+    put_byte(out, at + 3, hex_digit(w % 16));
+    at + 4
+}
+
+// How many decimal digits n has.
+fn places(n: u64) -> usize
+    ensures { λ r. ⌜ r ≡ placesUpTo 19 n ⌝ }
+{
+    let mut k: usize = 1;
+    let mut rest = n;
+    while 10 <= rest {
+        rest /= 10;
+        k += 1;
+    }
+    k
+}
+
+// The last k decimal digits of n, written from the last one back.
+fn put_digits(out: &mut [u8], at: usize, k: usize, n: u64)
+    requires { ⌜ (at ≤ 2 ^ 63 + 1024) × (k ≤ 20) ⌝ }
+    ensures { λ r. ⌜ now (out .exit) ≡ sets (now (out .entry)) at (digits k n) ⌝ }
+{
+    let mut i = k;
+    let mut rest = n;
+    while 0 < i {
+        i -= 1;
+        put_byte(out, at + i, 48 + (rest % 10) as u8);
+        rest /= 10;
+    }
+}
+
+// A decimal number, and the place after it.
+pub(crate) fn put_decimal(out: &mut [u8], at: usize, n: u64) -> usize
+    requires { ⌜ at ≤ 2 ^ 63 + 1024 ⌝ }
+    ensures text { λ r. ⌜ Put (now (out .entry)) at (decimalText n) (now (out .exit)) r ⌝ }
+    ensures near { λ r. ⌜ r ≤ at + 20 ⌝ }
+{
+    let k = places(n);
+    put_digits(out, at, k, n);
+    at + k
+}

@@ -1,0 +1,2 @@
+// The fourth layer: a view of a trace, a record at a time. Document 01, "Required forms by place".
+pub mod view;

@@ -1,0 +1,4 @@
+pub mod Flags
+pub mod Wrap
+pub mod Meets
+pub mod Determined
