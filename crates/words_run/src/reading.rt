@@ -40,7 +40,7 @@ fn one(name: &[u8], flags: u8, count: u8, high: u8, low: u8, last_high: u8, last
     show::text(name);
     show::text(b":");
     let s = record(flags, count, high, low, last_high, last_low);
-    reading(records::reader::read(&s));
+    reading(layout::reader::read(&s));
 }
 
 // The first `n` of 160 zero bytes: the number, as a digit.
@@ -48,7 +48,7 @@ fn long(n: usize)
     requires { ⌜ n ≤ 160 ⌝ }
 {
     let s = [0u8; 160];
-    show::digit(records::reader::read(&s[..n]).number);
+    show::digit(layout::reader::read(&s[..n]).number);
 }
 
 fn each_length() {
@@ -67,7 +67,7 @@ fn byte_set(count: u8, at: usize, value: u8)
     let mut s = [0u8; 80];
     s[7] = count;
     s[at] = value;
-    show::digit(records::reader::read(&s).number);
+    show::digit(layout::reader::read(&s).number);
 }
 
 fn each_byte(count: u8, value: u8) {

@@ -39,10 +39,10 @@ fn one(name: &[u8], flags: u8, count: u8, first: u16, last: u16) {
     show::text(name);
     show::text(b":");
     let v = value(flags, count, first, last);
-    written(records::writer::write(v));
+    written(layout::writer::write(v));
     show::text(b"  read back:");
     let u = value(flags, count, first, last);
-    let r = records::round_trip::read_written(u);
+    let r = layout::round_trip::read_written(u);
     show::number(r.number);
     let x = r.value;
     show::word(x.command);
@@ -69,7 +69,7 @@ fn back(name: &[u8], n: usize, count: u8, last: u8)
     let mut s = [0u8; 81];
     s[7] = count;
     s[79] = last;
-    written(records::round_trip::write_read(&s[..n]));
+    written(layout::round_trip::write_read(&s[..n]));
 }
 
 pub fn all() {

@@ -1,8 +1,8 @@
 -- `row` ends: `i` counts up to 4.
 use Prim.Native.Nat.{_≤_, _-_}
 use borrow.Author.Needs.{needs}
-use Rattle.cells_run.proofs.windows.row.Statement.{statement}
-use Rattle.cells_run.proofs.windows.row.Tie as tie
+use Rattle.cells_run.proofs.blocks.row.Statement.{statement}
+use Rattle.cells_run.proofs.blocks.row.Tie as tie
 
 abbrev Inv-loop : tie.InvT-loop
 Inv-loop pointer size steps at₀ i₀ at i = i ≤ 4
