@@ -2,12 +2,8 @@
 -- are equal. Each line speaks of the contract as the checker reads it (`Reads.Post`), so that none can drift from its function.
 use mathlib.Core.Path.{refl}
 use Rattle.words.proofs.Settled.{determined, Settled}
-use Rattle.decide.proofs.deed
 use Rattle.decide.proofs.plan
 use Rattle.decide.proofs.report
-
-pub act-of-settled : Settled 0 deed.act_of.Kinds.ps deed.act_of.Kinds.r deed.act_of.Reads.Post
-act-of-settled κs a x y v w p q = (determined p q, refl)
 
 pub interrupt-word-settled : Settled 0 report.interrupt_word.Kinds.ps report.interrupt_word.Kinds.r report.interrupt_word.Reads.Post
 interrupt-word-settled κs a x y v w p q = (determined p q, refl)

@@ -1,3 +1,2 @@
-pub mod Motion
 pub mod Reach
 pub mod Determined

@@ -1,4 +1,3 @@
-pub mod Deed
 pub mod Report
 pub mod Plan
 pub mod Ready

@@ -10,7 +10,7 @@ use Rattle.decide.specs.declared.plan.Deed.{Deed}
 use Rattle.decide.specs.declared.plan.Entry.{Entry}
 use Rattle.decide.specs.declared.plan.Plan.{Plan}
 use Rattle.arrival.specs.Target.{targetOf}
-use Rattle.decide.specs.Deed.{actOf, motionOf}
+use Rattle.deed.specs.Deed.{actOf, motionOf}
 use Rattle.decide.specs.Report.{reportOf}
 
 -- what the message does in its cell: no word of RAM is read beyond the target

@@ -7,8 +7,8 @@ use Rattle.records.specs.Value.{onBusB}
 use Rattle.memory.specs.Map.{bitOf}
 use Rattle.arrival.specs.declared.fault.Faults.{Faults}
 use Rattle.arrival.specs.declared.target.Target.{Target}
-use Rattle.decide.specs.declared.deed.Act.{Act}
-use Rattle.decide.specs.declared.deed.Motion.{Motion}
+use Rattle.deed.specs.declared.deed.Act.{Act}
+use Rattle.deed.specs.declared.deed.Motion.{Motion}
 use Rattle.decide.specs.declared.report.Report.{Report}
 use Rattle.arrival.specs.Fault.{anyFault}
 

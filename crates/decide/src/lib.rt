@@ -1,5 +1,4 @@
 // The third layer: an accepted message is decided, by small functions, into one value, the plan.
 // Document 01, "What one message does".
-pub mod deed;
 pub mod plan;
 pub mod report;

@@ -17,11 +17,11 @@ use Rattle.cells.specs.Stack.{stackPointer, stackWindow, stackSound}
 use Rattle.area.specs.Area.{isRead, cellNumbered, isUnsound, orElse, lowest, lowestUnsound, areaGrounds, areaRefusal, checkArea}
 use Rattle.arrival.specs.Fault.{expectedWords, faultsOf, faultsFor, anyFault}
 use Rattle.arrival.specs.Target.{cellFor, isIllegal, isBusy, targetOf}
-use Rattle.decide.specs.Deed.{withheld, wordsStored, wordsSent, actWith, actOf, mayMove, stride, moves, motionWith, motionOf}
+use Rattle.deed.specs.Deed.{withheld, wordsStored, wordsSent, actWith, actOf, mayMove, stride, moves, motionWith, motionOf}
 use Rattle.decide.specs.Report.{blockStatus, statusWord, reportOf, interruptWord}
 use Rattle.decide.specs.Plan.{deedOf, entryOf, planOf}
-use Rattle.message.specs.Writes.{applyWrites, writesTo, pointerWrites, descriptorOf, entryWrites, deedWrites, stackWrites, writesOf}
-use Rattle.message.specs.Reply.{replyWrites, replyWords}
+use Rattle.carry.specs.Writes.{applyWrites, writesTo, pointerWrites, descriptorOf, entryWrites, deedWrites, stackWrites, writesOf}
+use Rattle.carry.specs.Reply.{replyWrites, replyWords}
 use Rattle.message.specs.Answer.{cellUnsound, groundsFor, refusalFor, refusedWith, acceptedWith, rememberedFrom, acceptedOutcome, outcomeFor, ramFor, replyFor}
 use Rattle.message.specs.Message.{outcomeOfValue, ramAfterValue, replyAfterValue}
 use Rattle.message.specs.Run.{stepValue, run, effectOf, effects}

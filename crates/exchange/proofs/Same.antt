@@ -24,10 +24,10 @@ use Rattle.memory.proofs.Places.{lookup-between, control-between, stack-pointer
 use Rattle.decide.specs.declared.plan.Deed.{Deed}
 use Rattle.arrival.specs.Target.{cellFor, isIllegal, isBusy, targetOf}
 use Rattle.decide.specs.Plan.{deedOf, entryOf, planOf}
-use Rattle.message.specs.Writes.{writesTo, deedWrites}
-use Rattle.message.specs.Reply.{replyWrites, replyWords}
+use Rattle.carry.specs.Writes.{writesTo, deedWrites}
+use Rattle.carry.specs.Reply.{replyWrites, replyWords}
 use Rattle.message.specs.Run.{State, stepValue, run, effectOf, effects}
-use Rattle.message.proofs.Footprint.{Outside, same-at}
+use Rattle.carry.proofs.Footprint.{Outside, same-at}
 use Rattle.message.proofs.Step.{deedFor, after-length, target-sized, stack-moves, beyond-stack}
 use Rattle.message.proofs.Kept.{Kept, cell-words, message-keeps}
 use Rattle.exchange.specs.Condition.{wellFormed, allWellFormed}

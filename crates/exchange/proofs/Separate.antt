@@ -25,9 +25,9 @@ use Rattle.cells.proofs.Sound.{FreeAddress, sound-address}
 use Rattle.memory.proofs.Places.{lookup-between, lookup-differs, ordinary-not-lookup, ordinary-not-stack-pointer}
 use Rattle.arrival.specs.Target.{cellFor, targetOf}
 use Rattle.decide.specs.Plan.{deedOf}
-use Rattle.message.specs.Writes.{deedWrites}
-use Rattle.message.specs.Reply.{replyWords}
-use Rattle.message.proofs.Footprint.{Avoids, Outside}
+use Rattle.carry.specs.Writes.{deedWrites}
+use Rattle.carry.specs.Reply.{replyWords}
+use Rattle.carry.proofs.Footprint.{Avoids, Outside}
 use Rattle.message.proofs.Sure.{Sure}
 use Rattle.message.proofs.Step.{afterMessage, deedFor, cell-low, target-some, deed-avoids, elsewhere, tables-outside}
 use Rattle.message.proofs.Kept.{message-keeps, other-cell}

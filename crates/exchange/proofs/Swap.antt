@@ -15,11 +15,11 @@ use Rattle.arrival.specs.declared.target.Target.{Target}
 use Rattle.decide.specs.declared.plan.Deed.{Deed}
 use Rattle.decide.specs.Plan.{planOf}
 use Rattle.decide.specs.Report.{interruptWord}
-use Rattle.message.specs.Writes.{applyWrites, deedWrites, descriptorOf}
-use Rattle.message.specs.Reply.{replyWords}
+use Rattle.carry.specs.Writes.{applyWrites, deedWrites, descriptorOf}
+use Rattle.carry.specs.Reply.{replyWords}
 use Rattle.message.specs.Answer.{acceptedWith}
 use Rattle.message.specs.Run.{State, stepValue, Effect, effectOf}
-use Rattle.message.proofs.Footprint.{Avoids, untouched, Outside, same-at}
+use Rattle.carry.proofs.Footprint.{Avoids, untouched, Outside, same-at}
 use Rattle.message.proofs.Sure.{Sure}
 use Rattle.message.proofs.Step.{afterMessage, deedFor, after-length, beyond-stack, stack-moves}
 use Rattle.message.proofs.Kept.{message-keeps}

@@ -18,16 +18,16 @@ use Rattle.cells.proofs.Block.{stack-facts-sound}
 use Rattle.area.proofs.Whole.{AreaFine}
 use Rattle.arrival.specs.Target.{cellFor, targetOf}
 use Rattle.decide.specs.Plan.{planOf}
-use Rattle.message.specs.Writes.{descriptorOf}
-use Rattle.message.specs.Reply.{replyWrites, replyWords}
+use Rattle.carry.specs.Writes.{descriptorOf}
+use Rattle.carry.specs.Reply.{replyWrites, replyWords}
 use Rattle.message.specs.Answer.{cellUnsound, groundsFor, refusalFor, refusalOfValue, acceptedWith, rememberedFrom, acceptedOutcome, outcomeFor, ramFor, replyFor}
 use Rattle.message.specs.Message.{outcomeOfValue, ramAfterValue, replyAfterValue}
 use Rattle.message.specs.Run.{State, stepValue, effectOf}
 use Rattle.message.proofs.Sure.{Sure, fine-sure}
 use Rattle.message.proofs.Step.{afterMessage, deedFor}
 use Rattle.message.proofs.Kept.{fine-kept}
-use Rattle.message.proofs.Writes.{length-apply}
-use Rattle.message.proofs.Replied.{reply-front, sent-few}
+use Rattle.carry.proofs.Writes.{length-apply}
+use Rattle.carry.proofs.Replied.{reply-front, sent-few}
 use Rattle.exchange.specs.Condition.{wellFormed}
 use Rattle.exchange.specs.Kept.{overFront}
 

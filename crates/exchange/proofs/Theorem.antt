@@ -18,7 +18,7 @@ use Rattle.memory.proofs.Places.{stack-pointer-between}
 use Rattle.area.proofs.Whole.{area-fine}
 use Rattle.message.specs.Answer.{replyRefused}
 use Rattle.message.specs.Run.{State, run}
-use Rattle.message.proofs.Footprint.{Outside}
+use Rattle.carry.proofs.Footprint.{Outside}
 use Rattle.exchange.specs.Order.{exchangeAll}
 use Rattle.exchange.specs.Condition.{allWellFormed, allowedAll}
 use Rattle.exchange.specs.After.{keptAfter, stackAfter, rememberedAfter, repliedAfter}

@@ -8,7 +8,7 @@ use Rattle.words.specs.declared.settings.Area.the-variants.{A}
 use Rattle.words.specs.declared.settings.Settings.{Settings}
 use Rattle.words.specs.declared.settings.Remembered.{Remembered}
 use Rattle.words.specs.Settings.{nothingRemembered}
-use Rattle.message.specs.Writes.{Write, applyWrites}
+use Rattle.carry.specs.Writes.{Write, applyWrites}
 use Rattle.message.specs.Run.{State, run, Effect, effects}
 use Rattle.exchange.specs.Order.{exchangeAll}
 use Rattle.exchange.specs.After.{keptAfter, stackAfter, rememberedAfter}

@@ -13,11 +13,11 @@ use Rattle.cells.specs.Cell.{controlPart, pickScheme, schemeOf, cellAt, windowO
 use Rattle.cells.specs.Stack.{stackPointer, stackWindow, stackSound}
 use Rattle.arrival.specs.Fault.{expectedWords, faultsOf, faultsFor, anyFault}
 use Rattle.arrival.specs.Target.{cellFor, isIllegal, isBusy, targetOf}
-use Rattle.decide.specs.Deed.{withheld, wordsStored, wordsSent, actWith, actOf, mayMove, stride, moves, motionWith, motionOf}
+use Rattle.deed.specs.Deed.{withheld, wordsStored, wordsSent, actWith, actOf, mayMove, stride, moves, motionWith, motionOf}
 use Rattle.decide.specs.Report.{blockStatus, statusWord, reportOf, interruptWord}
 use Rattle.decide.specs.Plan.{deedOf, entryOf, planOf}
-use Rattle.message.specs.Writes.{applyWrites, writesTo, pointerWrites, descriptorOf, entryWrites, deedWrites, stackWrites, writesOf}
-use Rattle.message.specs.Reply.{replyWrites, replyWords}
+use Rattle.carry.specs.Writes.{applyWrites, writesTo, pointerWrites, descriptorOf, entryWrites, deedWrites, stackWrites, writesOf}
+use Rattle.carry.specs.Reply.{replyWrites, replyWords}
 use Rattle.message.specs.Answer.{cellUnsound, groundsFor, refusalFor, refusedWith, acceptedWith, rememberedFrom, acceptedOutcome, outcomeFor}
 use Rattle.message.specs.Message.{outcomeOfValue}
 use Rattle.message.specs.Edges.{runCase, cases, expected}

@@ -29,10 +29,10 @@ use Rattle.area.proofs.Listed.{read-listed}
 use Rattle.memory.proofs.Places.{lookup-between, control-between, stack-pointer-between, busy-between, illegal-between, lookup-differs, lookup-not-control, lookup-not-stack-pointer, control-not-stack-pointer}
 use Rattle.area.proofs.Whole.{AreaFine, SoundAt}
 use Rattle.arrival.specs.Target.{cellFor, targetOf}
-use Rattle.decide.specs.Deed.{actOf, motionOf, moves}
+use Rattle.deed.specs.Deed.{actOf, motionOf, moves}
 use Rattle.decide.specs.Plan.{deedOf}
 use Rattle.message.proofs.Sure.{Sure}
-use Rattle.decide.proofs.Motion.{single-stays, Contained, motion-contained}
+use Rattle.deed.proofs.Motion.{single-stays, Contained, motion-contained}
 use Rattle.message.proofs.Step.{afterMessage, deedFor, after-length, cell-low, target-sized, tables-stay, illegal-stay, stack-moves, lookup-after}
 
 -- what one RAM keeps of another

@@ -1,11 +1,7 @@
-pub mod Writes
-pub mod Footprint
 pub mod Sure
 pub mod Step
 pub mod Kept
-pub mod Replied
 pub mod Only
-pub mod Carried
 pub mod Accepted
 pub mod FromBytes
 pub mod Refusals

@@ -19,14 +19,14 @@ use Rattle.memory.specs.Map.{lookupPlace, stackPointerPlace}
 use Rattle.cells.specs.Stack.{stackWindow}
 use Rattle.arrival.specs.Target.{targetOf}
 use Rattle.decide.specs.Plan.{planOf}
-use Rattle.message.specs.Reply.{replyWords}
+use Rattle.carry.specs.Reply.{replyWords}
 use Rattle.message.specs.Answer.{groundsFor, refusalFor, ramFor, replyFor}
 use Rattle.message.specs.Message.{ramAfterValue, replyAfterValue, ramAfterBytes, replyAfterBytes}
-use Rattle.message.proofs.Footprint.{Outside}
+use Rattle.carry.proofs.Footprint.{Outside}
 use Rattle.message.proofs.Sure.{accepted-sure}
 use Rattle.message.proofs.Step.{elsewhere, deedFor}
 use Rattle.message.proofs.Kept.{Kept, message-keeps, nothing-changed}
-use Rattle.message.proofs.Replied.{reply-behind, sent-few}
+use Rattle.carry.proofs.Replied.{reply-behind, sent-few}
 
 -- the address is none that the message may change
 pub record Elsewhere (ram : List ℕ) (s : Settings) (command a : ℕ) : Type 0 where

@@ -24,11 +24,11 @@ use Rattle.memory.proofs.Numbers.{number-below}
 use Rattle.memory.proofs.Places.{lookup-between, stack-pointer-between, lookup-not-stack-pointer, ordinary-not-lookup, ordinary-not-stack-pointer}
 use Rattle.decide.specs.declared.plan.Deed.{Deed}
 use Rattle.arrival.specs.Target.{cellFor, targetOf}
-use Rattle.decide.specs.Deed.{wordsStored, actWith, actOf, motionWith, motionOf}
+use Rattle.deed.specs.Deed.{wordsStored, actWith, actOf, motionWith, motionOf}
 use Rattle.decide.specs.Plan.{deedOf, entryOf, planOf}
-use Rattle.message.specs.Writes.{applyWrites, writesTo, dataWrites, pointerWrites, descriptorOf, entryWrites, stackPointerWrites, deedWrites, stackWrites, writesOf}
-use Rattle.message.proofs.Writes.{apply-append, length-apply}
-use Rattle.message.proofs.Footprint.{Avoids, untouched, avoids-append, avoids-places, Outside, written}
+use Rattle.carry.specs.Writes.{applyWrites, writesTo, dataWrites, pointerWrites, descriptorOf, entryWrites, stackPointerWrites, deedWrites, stackWrites, writesOf}
+use Rattle.carry.proofs.Writes.{apply-append, length-apply}
+use Rattle.carry.proofs.Footprint.{Avoids, untouched, avoids-append, avoids-places, Outside, written}
 use Rattle.message.proofs.Sure.{Sure}
 
 -- RAM after an accepted message, and after its deed alone

@@ -22,8 +22,8 @@ use Rattle.message.specs.declared.answer.Outcome.{Outcome}
 use Rattle.arrival.specs.Target.{cellFor}
 use Rattle.decide.specs.Plan.{planOf}
 use Rattle.decide.specs.Report.{interruptWord}
-use Rattle.message.specs.Writes.{applyWrites, writesOf}
-use Rattle.message.specs.Reply.{replyWrites}
+use Rattle.carry.specs.Writes.{applyWrites, writesOf}
+use Rattle.carry.specs.Reply.{replyWrites}
 
 -- "reply buffer under 33 words"
 abbrev pub replyRefused : ℕ → Bool

@@ -16,8 +16,8 @@ use Rattle.message.specs.declared.answer.Answer.{Answer}
 use Rattle.message.specs.declared.answer.Outcome.{Outcome}
 use Rattle.arrival.specs.Fault.{expectedWords}
 use Rattle.decide.specs.Plan.{planOf}
-use Rattle.message.specs.Writes.{Write, applyWrites, writesTo, writesOf}
-use Rattle.message.specs.Reply.{replyWords}
+use Rattle.carry.specs.Writes.{Write, applyWrites, writesTo, writesOf}
+use Rattle.carry.specs.Reply.{replyWords}
 use Rattle.message.specs.Message.{outcomeOfValue}
 
 -- what a case starts from: blank RAM with some words written, settings, the record

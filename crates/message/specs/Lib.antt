@@ -1,5 +1,3 @@
-pub mod Writes
-pub mod Reply
 pub mod Answer
 pub mod Message
 pub mod Run

@@ -9,8 +9,8 @@ use Rattle.words.specs.declared.settings.Settings.{Settings}
 use Rattle.words.specs.declared.settings.Remembered.{Remembered}
 use Rattle.message.specs.declared.answer.Answer.{Answer}
 use Rattle.decide.specs.Plan.{planOf}
-use Rattle.message.specs.Writes.{descriptorOf}
-use Rattle.message.specs.Reply.{replyWords}
+use Rattle.carry.specs.Writes.{descriptorOf}
+use Rattle.carry.specs.Reply.{replyWords}
 use Rattle.message.specs.Answer.{refusalOfValue}
 use Rattle.message.specs.Message.{outcomeOfValue, ramAfterValue, replyAfterValue, outcomeOfBytes, ramAfterBytes, replyAfterBytes}
 

@@ -1,6 +1,4 @@
 // The third layer, second half: one message is tested, and then refused or carried out by its plan.
 // Document 01, "What one message does" and "Numbers that refuse".
 pub mod answer;
-pub mod carry;
-pub mod reply;
 pub mod serve;

@@ -2,7 +2,7 @@
 use borrow.Author.Needs.{needs}
 use native.Mathlib.Omega.{arith}
 use Rattle.decide.specs.Plan.{entryOf}
-use Rattle.decide.proofs.Reach.{place-fits}
+use Rattle.deed.proofs.Reach.{place-fits}
 use Rattle.decide.proofs.plan.entry_of.Statement.{statement}
 use Rattle.decide.proofs.plan.entry_of.Tie as tie
 

@@ -1,0 +1,23 @@
+-- `send` meets its contract: the status and then the words, or nothing.
+use borrow.Author.Needs.{needs}
+use Rattle.carry.proofs.Carried.{reply-sent, reply-none}
+use Rattle.carry.proofs.reply.send.Statement.{statement}
+use Rattle.carry.proofs.reply.send.Tie as tie
+
+put-requires : tie.Need-put-requires
+put-requires c κs = search needs
+
+send-words-requires : tie.Need-send-words-requires
+send-words-requires c κs = search needs
+
+same-length : tie.Need-same-length
+same-length c = search needs
+
+returns : tie.Need-returns
+returns c = search reply-sent
+
+returns-2 : tie.Need-returns-2
+returns-2 c = search reply-none
+
+pub send-spec : {M : Type 1} → statement M
+send-spec = tie.close (tie.spec put-requires send-words-requires same-length returns returns-2)

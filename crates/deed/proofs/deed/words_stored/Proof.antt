@@ -1,0 +1,43 @@
+-- `words_stored` meets its contract: rule 3's count.
+use borrow.Author.Needs.{needs}
+use Rattle.deed.specs.Deed.{wordsStored}
+use Rattle.deed.proofs.deed.words_stored.Statement.{statement}
+use Rattle.deed.proofs.deed.words_stored.Tie as tie
+
+transmit-requires : tie.Need-transmit-requires
+transmit-requires c κs = search needs
+
+is-withheld-requires : tie.Need-is-withheld-requires
+is-withheld-requires c κs = search needs
+
+either-requires : tie.Need-either-requires
+either-requires c κs = search needs
+
+cast-smaller : tie.Need-cast-smaller
+cast-smaller c = search needs
+
+word-count-requires : tie.Need-word-count-requires
+word-count-requires c κs = search needs
+
+smaller-requires : tie.Need-smaller-requires
+smaller-requires c κs = search needs
+
+pick-requires : tie.Need-pick-requires
+pick-requires c κs = search needs
+
+returns : tie.Need-returns
+unfolding wordsStored
+returns c = cc
+
+pub words-stored-spec : {M : Type 1} → statement M
+words-stored-spec =
+    tie.close
+    (tie.spec
+    transmit-requires
+    is-withheld-requires
+    either-requires
+    cast-smaller
+    word-count-requires
+    smaller-requires
+    pick-requires
+    returns)
