@@ -3,7 +3,9 @@ pub mod Step
 pub mod Kept
 pub mod Only
 pub mod Accepted
-pub mod FromBytes
 pub mod Refusals
+pub mod InTurn
+pub mod FromValue
+pub mod FromBytes
 pub mod Edges
 pub mod Determined

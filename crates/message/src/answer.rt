@@ -1,7 +1,8 @@
-// What a message answers, and the nine cases that refuse it.
+// What a message answers, and the cases that refuse it: each is worked out only where none before it holds.
 ghost use mathlib.Core.Path.{_≡_};
 ghost use lib.ListN.{length};
-ghost use Rattle.message.specs.Answer.{cellUnsound, refusalFor, refusedWith, acceptedWith, acceptedOutcome, rememberedFrom};
+ghost use Rattle.message.specs.Answer.{cellUnsound, refusedWith, acceptedWith, acceptedOutcome, rememberedFrom};
+ghost use Rattle.message.specs.InTurn.{earlyRefusal, lateRefusal, refusedOutcome};
 use arrival::target::cell_for;
 use cells::cell::sound_cell;
 use cells::stack::stack_sound;
@@ -12,8 +13,6 @@ use memory::map::ram_refused;
 use records::value::Record;
 use words::choose::no;
 use words::command::mode_subaddress;
-use words::refusal::Grounds;
-use words::refusal::first_refusal;
 use words::settings::Remembered;
 use words::settings::Settings;
 use words::settings::is_not_ours;
@@ -42,30 +41,42 @@ fn cell_unsound(ram: &[u16], s: Settings, command: u16) -> bool
     no(sound_cell(ram.len(), stack_window(ram, s), cell_for(ram, s, command)))
 }
 
-pub(crate) fn refusal_for(
-    ram: &[u16],
-    room: usize,
-    s: Settings,
-    length: bool,
-    layout: bool,
-    command: u16,
-) -> u16
-    ensures { λ r. ⌜ r ≡ refusalFor (now (ram .entry)) room s length layout command ⌝ }
+// 1 to 3, which need no record.
+pub(crate) fn early_refusal(length: usize, room: usize, s: Settings) -> u16
+    ensures { λ r. ⌜ r ≡ earlyRefusal length room s ⌝ }
 {
-    first_refusal(Grounds {
-        ram: ram_refused(ram.len()),
-        reply: room < 33,
-        settings: settings_refused(s),
-        length,
-        layout,
-        address: is_not_ours(s, command),
-        subaddress: mode_subaddress(command),
-        stack: no(stack_sound(ram, s)),
-        cell: cell_unsound(ram, s, command),
-    })
+    if ram_refused(length) {
+        return 1;
+    }
+    if room < 33 {
+        return 2;
+    }
+    if settings_refused(s) {
+        return 3;
+    }
+    0
 }
 
-pub(crate) fn refused_with(number: u16) -> Answer
+// 6 to 9, about the command.
+pub(crate) fn late_refusal(ram: &[u16], s: Settings, command: u16) -> u16
+    ensures { λ r. ⌜ r ≡ lateRefusal (now (ram .entry)) s command ⌝ }
+{
+    if is_not_ours(s, command) {
+        return 6;
+    }
+    if mode_subaddress(command) {
+        return 7;
+    }
+    if no(stack_sound(ram, s)) {
+        return 8;
+    }
+    if cell_unsound(ram, s, command) {
+        return 9;
+    }
+    0
+}
+
+fn refused_with(number: u16) -> Answer
     ensures { λ r. ⌜ r ≡ refusedWith number ⌝ }
 {
     Answer {
@@ -78,6 +89,16 @@ pub(crate) fn refused_with(number: u16) -> Answer
         answered: false,
         sent: 0,
         interrupt: 0,
+    }
+}
+
+pub(crate) fn refused_outcome(number: u16, before: Remembered) -> Outcome
+    ensures { λ r. ⌜ r ≡ refusedOutcome number before ⌝ }
+{
+    let answer = refused_with(number);
+    Outcome {
+        answer,
+        remembered: before,
     }
 }
 

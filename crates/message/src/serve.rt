@@ -5,12 +5,14 @@ ghost use Rattle.decide.specs.Ready.{Ready};
 ghost use Rattle.decide.specs.Plan.{planOf};
 ghost use Rattle.carry.specs.Writes.{applyWrites, writesOf};
 ghost use Rattle.carry.specs.Reply.{replyWrites};
-ghost use Rattle.message.specs.Answer.{refusalFor, acceptedOutcome, outcomeFor, ramFor, replyFor};
+ghost use Rattle.message.specs.Answer.{acceptedOutcome, outcomeFor, ramFor, replyFor};
+ghost use Rattle.message.specs.InTurn.{earlyRefusal, lateRefusal};
 ghost use Rattle.message.specs.Message.{outcomeOfValue, ramAfterValue, replyAfterValue, outcomeOfBytes, ramAfterBytes, replyAfterBytes};
 use crate::answer::Outcome;
 use crate::answer::accepted_outcome;
-use crate::answer::refusal_for;
-use crate::answer::refused_with;
+use crate::answer::early_refusal;
+use crate::answer::late_refusal;
+use crate::answer::refused_outcome;
 use carry::carry::carry_out;
 use carry::reply::send;
 use decide::plan::plan_of;
@@ -35,27 +37,16 @@ fn accept(ram: &mut [u16], reply: &mut [u16], s: Settings, v: Record) -> Outcome
     accepted_outcome(plan, v)
 }
 
-// Tested, and then accepted or refused. What is wrong with the record's own form is told.
-fn serve(
-    ram: &mut [u16],
-    reply: &mut [u16],
-    s: Settings,
-    before: Remembered,
-    length: bool,
-    layout: bool,
-    v: Record,
-) -> Outcome
-    ensures outcome { λ r. ⌜ r ≡ outcomeFor (refusalFor (now (ram .entry)) (lib.ListN.length (now (reply .entry))) s length layout (v .command)) (now (ram .entry)) s before v ⌝ }
-    ensures ram { λ r. ⌜ now (ram .exit) ≡ ramFor (refusalFor (now (ram .entry)) (lib.ListN.length (now (reply .entry))) s length layout (v .command)) (now (ram .entry)) s v ⌝ }
-    ensures reply { λ r. ⌜ now (reply .exit) ≡ replyFor (refusalFor (now (ram .entry)) (lib.ListN.length (now (reply .entry))) s length layout (v .command)) (now (ram .entry)) (now (reply .entry)) s v ⌝ }
+// A record that keeps its layout: the tests about the command, and then accepted or refused.
+fn serve(ram: &mut [u16], reply: &mut [u16], s: Settings, before: Remembered, v: Record) -> Outcome
+    requires { ⌜ earlyRefusal (length (now ram)) (length (now reply)) s ≡ 0 ⌝ }
+    ensures outcome { λ r. ⌜ r ≡ outcomeFor (lateRefusal (now (ram .entry)) s (v .command)) (now (ram .entry)) s before v ⌝ }
+    ensures ram { λ r. ⌜ now (ram .exit) ≡ ramFor (lateRefusal (now (ram .entry)) s (v .command)) (now (ram .entry)) s v ⌝ }
+    ensures reply { λ r. ⌜ now (reply .exit) ≡ replyFor (lateRefusal (now (ram .entry)) s (v .command)) (now (ram .entry)) (now (reply .entry)) s v ⌝ }
 {
-    let number = refusal_for(ram, reply.len(), s, length, layout, v.command);
+    let number = late_refusal(ram, s, v.command);
     if number != 0 {
-        let answer = refused_with(number);
-        return Outcome {
-            answer,
-            remembered: before,
-        };
+        return refused_outcome(number, before);
     }
     accept(ram, reply, s, v)
 }
@@ -72,7 +63,14 @@ pub fn message_from_value(
     ensures ram { λ r. ⌜ now (ram .exit) ≡ ramAfterValue (now (ram .entry)) (now (reply .entry)) s v ⌝ }
     ensures reply { λ r. ⌜ now (reply .exit) ≡ replyAfterValue (now (ram .entry)) (now (reply .entry)) s v ⌝ }
 {
-    serve(ram, reply, s, before, false, no(keeps_layout(v)), v)
+    let early = early_refusal(ram.len(), reply.len(), s);
+    if early != 0 {
+        return refused_outcome(early, before);
+    }
+    if no(keeps_layout(v)) {
+        return refused_outcome(5, before);
+    }
+    serve(ram, reply, s, before, v)
 }
 
 // One message from record bytes.
@@ -87,15 +85,14 @@ pub fn message_from_bytes(
     ensures ram { λ r. ⌜ now (ram .exit) ≡ ramAfterBytes (now (ram .entry)) (now (reply .entry)) s (now (bytes .entry)) ⌝ }
     ensures reply { λ r. ⌜ now (reply .exit) ≡ replyAfterBytes (now (ram .entry)) (now (reply .entry)) s (now (bytes .entry)) ⌝ }
 {
+    let early = early_refusal(ram.len(), reply.len(), s);
+    if early != 0 {
+        return refused_outcome(early, before);
+    }
     let reading = reader::read(bytes);
+    if reading.number != 0 {
+        return refused_outcome(reading.number, before);
+    }
     let v = reading.value;
-    serve(
-        ram,
-        reply,
-        s,
-        before,
-        reading.number == 4,
-        reading.number == 5,
-        v,
-    )
+    serve(ram, reply, s, before, v)
 }

@@ -1,14 +1,40 @@
 -- `message_from_value` meets its contract: no test 4, and 5 where the value breaks the layout.
 use borrow.Author.Needs.{needs}
-use Rattle.message.specs.Message.{outcomeOfValue, ramAfterValue, replyAfterValue}
+use mathlib.Core.Path.{_≡_, _∙_, sym}
+use mathlib.Core.Bool.{true, false, not}
+use Rattle.records.specs.Value.{keepsLayout}
+use Rattle.message.proofs.FromValue.{value-early, value-layout, outcome-late, ram-late, reply-late}
 use Rattle.message.proofs.serve.message_from_value.Statement.{statement}
 use Rattle.message.proofs.serve.message_from_value.Tie as tie
+
+early-refusal-requires : tie.Need-early-refusal-requires
+early-refusal-requires c κs = search needs
+
+refused-outcome-requires : tie.Need-refused-outcome-requires
+refused-outcome-requires c κs = search needs
+
+returns : tie.Need-returns
+returns c =
+    let a = c .before .before .before .before .before .args in
+    let u = value-early (a .ram .now) (a .reply .now) (a .s) (a .before) (a .v) _ (c .before .before .early-refusal .ensures) (c .before .if1 .taken) in
+    (c .refused-outcome .ensures ∙ sym (u .outcome), (sym (u .words), sym (u .buffer)))
 
 keeps-layout-requires : tie.Need-keeps-layout-requires
 keeps-layout-requires c κs = search needs
 
 no-requires : tie.Need-no-requires
 no-requires c κs = search needs
+
+refused-outcome-requires-2 : tie.Need-refused-outcome-requires-2
+refused-outcome-requires-2 c κs = search needs
+
+returns-2 : tie.Need-returns-2
+returns-2 c =
+    let a = c .before .before .before .before .before .before .before .before .args in
+    let passed = sym (c .before .before .before .before .before .early-refusal .ensures) ∙ c .before .before .before .before .if1 .left in
+    let broken : not (keepsLayout (a .v)) ≡ true = cc in
+    let u = value-layout (a .ram .now) (a .reply .now) (a .s) (a .before) (a .v) passed broken in
+    (c .refused-outcome2 .ensures ∙ sym (u .outcome), (sym (u .words), sym (u .buffer)))
 
 serve-requires : tie.Need-serve-requires
 serve-requires c κs = search needs
@@ -19,11 +45,31 @@ same-length c = search needs
 same-length-2 : tie.Need-same-length-2
 same-length-2 c = search needs
 
-returns : tie.Need-returns
-unfolding outcomeOfValue ramAfterValue replyAfterValue
-returns c = (cc, (cc, cc))
+returns-3 : tie.Need-returns-3
+returns-3 c =
+    let a = c .before .before .before .before .before .before .before .before .before .before .before .before .before .before .args in
+    let passed = sym (c .before .before .before .before .before .before .before .before .before .before .before .early-refusal .ensures) ∙ c .before .before .before .before .before .before .before .before .before .before .if1 .left in
+    let kept : not (keepsLayout (a .v)) ≡ false = cc in
+    let k = c .before .before .before .before .serve .ensures in (
+      k .0 ∙ outcome-late (a .ram .now) (a .reply .now) (a .s) (a .before) (a .v) passed kept,
+      (
+        k .1 .0 ∙ ram-late (a .ram .now) (a .reply .now) (a .s) (a .before) (a .v) passed kept,
+        k .1 .1 ∙ reply-late (a .ram .now) (a .reply .now) (a .s) (a .before) (a .v) passed kept,
+      ),
+    )
 
 pub message-from-value-spec : {M : Type 1} → statement M
 message-from-value-spec =
     tie.close
-    (tie.spec keeps-layout-requires no-requires serve-requires same-length same-length-2 returns)
+    (tie.spec
+    early-refusal-requires
+    refused-outcome-requires
+    returns
+    keeps-layout-requires
+    no-requires
+    refused-outcome-requires-2
+    returns-2
+    serve-requires
+    same-length
+    same-length-2
+    returns-3)

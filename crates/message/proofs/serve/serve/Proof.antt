@@ -1,17 +1,16 @@
 -- `serve` meets its contract: accepted where the number is 0, and else nothing is touched.
 use borrow.Author.Needs.{needs}
-use mathlib.Core.Path.{_∙_, sym}
 use borrow.Author.Tests.{eq-eqb, ne-eqb}
 use Rattle.message.specs.Answer.{outcomeFor, ramFor, replyFor}
-use Rattle.message.proofs.Accepted.{accepted-ready}
+use Rattle.message.proofs.InTurn.{passed-ready}
 use Rattle.message.proofs.serve.serve.Statement.{statement}
 use Rattle.message.proofs.serve.serve.Tie as tie
 
-refusal-for-requires : tie.Need-refusal-for-requires
-refusal-for-requires c κs = search needs
+late-refusal-requires : tie.Need-late-refusal-requires
+late-refusal-requires c κs = search needs
 
-refused-with-requires : tie.Need-refused-with-requires
-refused-with-requires c κs = search needs
+refused-outcome-requires : tie.Need-refused-outcome-requires
+refused-outcome-requires c κs = search needs
 
 same-length : tie.Need-same-length
 same-length c = search needs
@@ -19,14 +18,13 @@ same-length c = search needs
 returns : tie.Need-returns
 unfolding outcomeFor ramFor replyFor
 returns c =
-    let e = c .before .before .refusal-for .ensures in
+    let e = c .before .before .late-refusal .ensures in
     let n = ne-eqb _ _ (c .before .if1 .taken) in
     (simp (← e, n) (cc), (simp (← e, n), simp (← e, n)))
 
 accept-requires : tie.Need-accept-requires
 accept-requires c κs =
-    let e = c .before .before .before .refusal-for .ensures in
-    accepted-ready _ _ _ _ _ _ (sym e ∙ c .before .before .if1 .left)
+    passed-ready _ _ _ _ _ (c .before .before .before .before .before .before .before .pre) (c .before .before .before .late-refusal .ensures) (c .before .before .if1 .left)
 
 same-length-2 : tie.Need-same-length-2
 same-length-2 c = search needs
@@ -37,7 +35,7 @@ same-length-3 c = search needs
 returns-2 : tie.Need-returns-2
 unfolding outcomeFor ramFor replyFor
 returns-2 c =
-    let e = c .before .before .before .before .before .before .before .before .refusal-for .ensures in
+    let e = c .before .before .before .before .before .before .before .before .late-refusal .ensures in
     let n = eq-eqb _ _ (c .before .before .before .before .before .before .before .if1 .left) in
     (simp (← e, n) (cc), (simp (← e, n) (cc), simp (← e, n) (cc)))
 
@@ -45,8 +43,8 @@ pub serve-spec : {M : Type 1} → statement M
 serve-spec =
     tie.close
     (tie.spec
-    refusal-for-requires
-    refused-with-requires
+    late-refusal-requires
+    refused-outcome-requires
     same-length
     returns
     accept-requires

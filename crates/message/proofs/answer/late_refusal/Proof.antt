@@ -1,0 +1,62 @@
+-- `late_refusal` meets its contract: the first of its four tests that holds.
+use borrow.Author.Needs.{needs}
+use Rattle.words.specs.Refusal.{firstOf}
+use Rattle.message.specs.InTurn.{lateRefusal}
+use Rattle.message.proofs.answer.late_refusal.Statement.{statement}
+use Rattle.message.proofs.answer.late_refusal.Tie as tie
+
+is-not-ours-requires : tie.Need-is-not-ours-requires
+is-not-ours-requires c κs = search needs
+
+returns : tie.Need-returns
+unfolding lateRefusal firstOf
+returns c = simp (← (c .before .is-not-ours .ensures), c .if1 .taken)
+
+mode-subaddress-requires : tie.Need-mode-subaddress-requires
+mode-subaddress-requires c κs = search needs
+
+returns-2 : tie.Need-returns-2
+unfolding lateRefusal firstOf
+returns-2 c = simp (← (c .before .before .before .is-not-ours .ensures), c .before .before .if1 .left, ← (c .before .mode-subaddress .ensures), c .if2 .taken)
+
+stack-sound-requires : tie.Need-stack-sound-requires
+stack-sound-requires c κs = search needs
+
+no-requires : tie.Need-no-requires
+no-requires c κs = search needs
+
+returns-3 : tie.Need-returns-3
+unfolding lateRefusal firstOf
+returns-3 c =
+    simp
+    (← (c .before .before .before .before .before .before .is-not-ours .ensures), c .before .before .before .before .before .if1 .left, ← (c .before .before .before .before .mode-subaddress .ensures), c .before .before .before .if2 .left, ← (c .before .before .stack-sound .ensures), ← (c .before .no .ensures), c .if3 .taken)
+
+cell-unsound-requires : tie.Need-cell-unsound-requires
+cell-unsound-requires c κs = search needs
+
+returns-4 : tie.Need-returns-4
+unfolding lateRefusal firstOf
+returns-4 c =
+    simp
+    (← (c .before .before .before .before .before .before .before .before .is-not-ours .ensures), c .before .before .before .before .before .before .before .if1 .left, ← (c .before .before .before .before .before .before .mode-subaddress .ensures), c .before .before .before .before .before .if2 .left, ← (c .before .before .before .before .stack-sound .ensures), ← (c .before .before .before .no .ensures), c .before .before .if3 .left, ← (c .before .cell-unsound .ensures), c .if4 .taken)
+
+returns-5 : tie.Need-returns-5
+unfolding lateRefusal firstOf
+returns-5 c =
+    simp
+    (← (c .before .before .before .before .before .before .before .before .is-not-ours .ensures), c .before .before .before .before .before .before .before .if1 .left, ← (c .before .before .before .before .before .before .mode-subaddress .ensures), c .before .before .before .before .before .if2 .left, ← (c .before .before .before .before .stack-sound .ensures), ← (c .before .before .before .no .ensures), c .before .before .if3 .left, ← (c .before .cell-unsound .ensures), c .if4 .left)
+
+pub late-refusal-spec : {M : Type 1} → statement M
+late-refusal-spec =
+    tie.close
+    (tie.spec
+    is-not-ours-requires
+    returns
+    mode-subaddress-requires
+    returns-2
+    stack-sound-requires
+    no-requires
+    returns-3
+    cell-unsound-requires
+    returns-4
+    returns-5)
