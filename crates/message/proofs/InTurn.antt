@@ -11,6 +11,7 @@ use borrow.Author.Tests.{eq-eqb, ne-eqb}
 use Rattle.words.specs.declared.settings.Settings.{Settings}
 use Rattle.words.specs.Refusal.{Test, firstOf, inOrder, firstRefusal}
 use Rattle.words.proofs.Refusals.{Numbered}
+use Rattle.memory.specs.Map.{ramRefused}
 use Rattle.decide.specs.Ready.{Ready}
 use Rattle.message.specs.Answer.{groundsFor, refusalFor}
 use Rattle.message.specs.Tests.{commandTests}
@@ -53,9 +54,15 @@ module _ (ram : List ℕ) (room : ℕ) (s : Settings) (short broken : Bool) (com
   pub early-passes : early ≡ 0 → refusalFor ram room s short broken command ≡ behind
   early-passes e = rw (refusal-in-turn, eq-eqb early 0 e)
 
--- a message that passes the early and the late tests is ready, if its record is in order
+-- a message that passes the early and the late tests is ready to be carried out
 pub passed-ready :
     (ram : List ℕ) (room : ℕ) (s : Settings) (command n : ℕ) →
     earlyRefusal (length ram) room s ≡ 0 → n ≡ lateRefusal ram s command → n ≡ 0 → Ready ram s command
 passed-ready ram room s command n passed e z =
     accepted-ready ram room s false false command (early-passes ram room s false false command passed ∙ (sym e ∙ z))
+
+-- after the early tests RAM has its length
+pub ram-passed :
+    (size room : ℕ) (s : Settings) (b : Bool) → earlyRefusal size room s ≡ 0 → b ≡ ramRefused size → b ≡ true → ⊥
+unfolding earlyRefusal firstOf
+ram-passed size room s b passed e held = let one = rw (sym e ∙ held) at passed in omega arith

@@ -1,6 +1,5 @@
 // What a message answers, and the cases that refuse it: each is worked out only where none before it holds.
 ghost use mathlib.Core.Path.{_≡_};
-ghost use lib.ListN.{length};
 ghost use Rattle.message.specs.Answer.{cellUnsound, refusedWith, acceptedWith, acceptedOutcome, rememberedFrom};
 ghost use Rattle.message.specs.InTurn.{earlyRefusal, lateRefusal, refusedOutcome};
 use arrival::target::cell_for;

@@ -17,6 +17,7 @@ use carry::carry::carry_out;
 use carry::reply::send;
 use decide::plan::plan_of;
 use layout::reader;
+use memory::map::ram_refused;
 use records::value::Record;
 use records::value::keeps_layout;
 use words::choose::no;
@@ -37,13 +38,17 @@ fn accept(ram: &mut [u16], reply: &mut [u16], s: Settings, v: Record) -> Outcome
     accepted_outcome(plan, v)
 }
 
-// A record that keeps its layout: the tests about the command, and then accepted or refused.
+// A record in order, after the early tests: those about the command, and then accepted or refused.
 fn serve(ram: &mut [u16], reply: &mut [u16], s: Settings, before: Remembered, v: Record) -> Outcome
     requires { ⌜ earlyRefusal (length (now ram)) (length (now reply)) s ≡ 0 ⌝ }
     ensures outcome { λ r. ⌜ r ≡ outcomeFor (lateRefusal (now (ram .entry)) s (v .command)) (now (ram .entry)) s before v ⌝ }
     ensures ram { λ r. ⌜ now (ram .exit) ≡ ramFor (lateRefusal (now (ram .entry)) s (v .command)) (now (ram .entry)) s v ⌝ }
     ensures reply { λ r. ⌜ now (reply .exit) ≡ replyFor (lateRefusal (now (ram .entry)) s (v .command)) (now (ram .entry)) (now (reply .entry)) s v ⌝ }
 {
+    // Never so here. It tells the compiler how long RAM is, which then leaves out the bounds tests of fixed places.
+    if ram_refused(ram.len()) {
+        return refused_outcome(1, before);
+    }
     let number = late_refusal(ram, s, v.command);
     if number != 0 {
         return refused_outcome(number, before);

@@ -22,11 +22,29 @@ settings-refused-requires c κs = search needs
 
 returns-3 : tie.Need-returns-3
 unfolding earlyRefusal firstOf
-returns-3 c = simp (← (c .before .before .before .before .ram-refused .ensures), c .before .before .before .if1 .left, le-ltb _ _ (c .before .before .if2 .left), ← (c .before .settings-refused .ensures), c .if3 .taken)
+returns-3 c =
+    let second = c .before .before in
+    let first = second .before in
+    simp (
+      ← (first .before .ram-refused .ensures),
+      first .if1 .left,
+      le-ltb _ _ (second .if2 .left),
+      ← (c .before .settings-refused .ensures),
+      c .if3 .taken,
+    )
 
 returns-4 : tie.Need-returns-4
 unfolding earlyRefusal firstOf
-returns-4 c = simp (← (c .before .before .before .before .ram-refused .ensures), c .before .before .before .if1 .left, le-ltb _ _ (c .before .before .if2 .left), ← (c .before .settings-refused .ensures), c .if3 .left)
+returns-4 c =
+    let second = c .before .before in
+    let first = second .before in
+    simp (
+      ← (first .before .ram-refused .ensures),
+      first .if1 .left,
+      le-ltb _ _ (second .if2 .left),
+      ← (c .before .settings-refused .ensures),
+      c .if3 .left,
+    )
 
 pub early-refusal-spec : {M : Type 1} → statement M
 early-refusal-spec =

@@ -17,7 +17,10 @@ mode-subaddress-requires c κs = search needs
 
 returns-2 : tie.Need-returns-2
 unfolding lateRefusal firstOf
-returns-2 c = simp (← (c .before .before .before .is-not-ours .ensures), c .before .before .if1 .left, ← (c .before .mode-subaddress .ensures), c .if2 .taken)
+returns-2 c =
+    let first = c .before .before in
+    simp
+    (← (first .before .is-not-ours .ensures), first .if1 .left, ← (c .before .mode-subaddress .ensures), c .if2 .taken)
 
 stack-sound-requires : tie.Need-stack-sound-requires
 stack-sound-requires c κs = search needs
@@ -28,8 +31,17 @@ no-requires c κs = search needs
 returns-3 : tie.Need-returns-3
 unfolding lateRefusal firstOf
 returns-3 c =
-    simp
-    (← (c .before .before .before .before .before .before .is-not-ours .ensures), c .before .before .before .before .before .if1 .left, ← (c .before .before .before .before .mode-subaddress .ensures), c .before .before .before .if2 .left, ← (c .before .before .stack-sound .ensures), ← (c .before .no .ensures), c .if3 .taken)
+    let second = c .before .before .before in
+    let first = second .before .before in
+    simp (
+      ← (first .before .is-not-ours .ensures),
+      first .if1 .left,
+      ← (second .before .mode-subaddress .ensures),
+      second .if2 .left,
+      ← (c .before .before .stack-sound .ensures),
+      ← (c .before .no .ensures),
+      c .if3 .taken,
+    )
 
 cell-unsound-requires : tie.Need-cell-unsound-requires
 cell-unsound-requires c κs = search needs
@@ -37,14 +49,38 @@ cell-unsound-requires c κs = search needs
 returns-4 : tie.Need-returns-4
 unfolding lateRefusal firstOf
 returns-4 c =
-    simp
-    (← (c .before .before .before .before .before .before .before .before .is-not-ours .ensures), c .before .before .before .before .before .before .before .if1 .left, ← (c .before .before .before .before .before .before .mode-subaddress .ensures), c .before .before .before .before .before .if2 .left, ← (c .before .before .before .before .stack-sound .ensures), ← (c .before .before .before .no .ensures), c .before .before .if3 .left, ← (c .before .cell-unsound .ensures), c .if4 .taken)
+    let third = c .before .before in
+    let second = third .before .before .before in
+    let first = second .before .before in
+    simp (
+      ← (first .before .is-not-ours .ensures),
+      first .if1 .left,
+      ← (second .before .mode-subaddress .ensures),
+      second .if2 .left,
+      ← (third .before .before .stack-sound .ensures),
+      ← (third .before .no .ensures),
+      third .if3 .left,
+      ← (c .before .cell-unsound .ensures),
+      c .if4 .taken,
+    )
 
 returns-5 : tie.Need-returns-5
 unfolding lateRefusal firstOf
 returns-5 c =
-    simp
-    (← (c .before .before .before .before .before .before .before .before .is-not-ours .ensures), c .before .before .before .before .before .before .before .if1 .left, ← (c .before .before .before .before .before .before .mode-subaddress .ensures), c .before .before .before .before .before .if2 .left, ← (c .before .before .before .before .stack-sound .ensures), ← (c .before .before .before .no .ensures), c .before .before .if3 .left, ← (c .before .cell-unsound .ensures), c .if4 .left)
+    let third = c .before .before in
+    let second = third .before .before .before in
+    let first = second .before .before in
+    simp (
+      ← (first .before .is-not-ours .ensures),
+      first .if1 .left,
+      ← (second .before .mode-subaddress .ensures),
+      second .if2 .left,
+      ← (third .before .before .stack-sound .ensures),
+      ← (third .before .no .ensures),
+      third .if3 .left,
+      ← (c .before .cell-unsound .ensures),
+      c .if4 .left,
+    )
 
 pub late-refusal-spec : {M : Type 1} → statement M
 late-refusal-spec =

@@ -16,7 +16,8 @@ refused-outcome-requires c κs = search needs
 returns : tie.Need-returns
 returns c =
     let a = c .before .before .before .before .before .args in
-    let u = value-early (a .ram .now) (a .reply .now) (a .s) (a .before) (a .v) _ (c .before .before .early-refusal .ensures) (c .before .if1 .taken) in
+    let u =
+    value-early (a .ram .now) (a .reply .now) (a .s) (a .before) (a .v) _ (c .before .before .early-refusal .ensures) (c .before .if1 .taken) in
     (c .refused-outcome .ensures ∙ sym (u .outcome), (sym (u .words), sym (u .buffer)))
 
 keeps-layout-requires : tie.Need-keeps-layout-requires
@@ -31,7 +32,8 @@ refused-outcome-requires-2 c κs = search needs
 returns-2 : tie.Need-returns-2
 returns-2 c =
     let a = c .before .before .before .before .before .before .before .before .args in
-    let passed = sym (c .before .before .before .before .before .early-refusal .ensures) ∙ c .before .before .before .before .if1 .left in
+    let t = c .before .before .before .before in
+    let passed = sym (t .before .early-refusal .ensures) ∙ t .if1 .left in
     let broken : not (keepsLayout (a .v)) ≡ true = cc in
     let u = value-layout (a .ram .now) (a .reply .now) (a .s) (a .before) (a .v) passed broken in
     (c .refused-outcome2 .ensures ∙ sym (u .outcome), (sym (u .words), sym (u .buffer)))
@@ -48,7 +50,8 @@ same-length-2 c = search needs
 returns-3 : tie.Need-returns-3
 returns-3 c =
     let a = c .before .before .before .before .before .before .before .before .before .before .before .before .before .before .args in
-    let passed = sym (c .before .before .before .before .before .before .before .before .before .before .before .early-refusal .ensures) ∙ c .before .before .before .before .before .before .before .before .before .before .if1 .left in
+    let t = c .before .before .before .before .before .before .before .before .before .before in
+    let passed = sym (t .before .early-refusal .ensures) ∙ t .if1 .left in
     let kept : not (keepsLayout (a .v)) ≡ false = cc in
     let k = c .before .before .before .before .serve .ensures in (
       k .0 ∙ outcome-late (a .ram .now) (a .reply .now) (a .s) (a .before) (a .v) passed kept,
