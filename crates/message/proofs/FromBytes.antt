@@ -54,15 +54,17 @@ module _ (ram reply : List ℕ) (s : Settings) (before : Remembered) (bytes : Li
   abbrev number : ℕ
   number = refusalOfBytes ram (length reply) s bytes
 
+  -- refused with n: the outcome says so, and nothing has changed
+  abbrev Refused : ℕ → Type 0
+  Refused n =
+      Untouched n ram reply before (outcomeOfBytes ram reply s before bytes) (ramAfterBytes ram reply s bytes)
+      (replyAfterBytes ram reply s bytes)
+
   -- a number that is not 0 refuses
-  stops :
-      (n : ℕ) → number ≡ n → (n ≡ 0 → ⊥) →
-      Untouched n ram reply before (outcomeOfBytes ram reply s before bytes) (ramAfterBytes ram reply s bytes) (replyAfterBytes ram reply s bytes)
+  stops : (n : ℕ) → number ≡ n → (n ≡ 0 → ⊥) → Refused n
   stops n e m = rw e at (bytes-untouched ram reply s before bytes (rw e m))
 
-  pub bytes-early :
-      (n : ℕ) → n ≡ earlyRefusal (length ram) (length reply) s → (n ≡ 0 → ⊥) →
-      Untouched n ram reply before (outcomeOfBytes ram reply s before bytes) (ramAfterBytes ram reply s bytes) (replyAfterBytes ram reply s bytes)
+  pub bytes-early : (n : ℕ) → n ≡ earlyRefusal (length ram) (length reply) s → (n ≡ 0 → ⊥) → Refused n
   bytes-early n e m =
       stops n
       (early-refuses ram (length reply) s (wrongLength bytes) (breaksLayout bytes) (valueIn bytes .command) (rw (← e) m) ∙ sym e)
@@ -74,10 +76,7 @@ module _ (ram reply : List ℕ) (s : Settings) (before : Remembered) (bytes : Li
         rw (e, early-passes ram (length reply) s (wrongLength bytes) (breaksLayout bytes) (valueIn bytes .command) passed)
         (form-number bytes (lateRefusal ram s (valueIn bytes .command)))
 
-    pub bytes-unread :
-        (r .number ≡ 0 → ⊥) →
-        Untouched (r .number) ram reply before (outcomeOfBytes ram reply s before bytes) (ramAfterBytes ram reply s bytes)
-        (replyAfterBytes ram reply s bytes)
+    pub bytes-unread : (r .number ≡ 0 → ⊥) → Refused (r .number)
     bytes-unread m = stops (r .number) (number-read ∙ rw (ne-eqb (r .number) 0 m)) m
 
     module _ (good : r .number ≡ 0) where
@@ -87,7 +86,8 @@ module _ (ram reply : List ℕ) (s : Settings) (before : Remembered) (bytes : Li
       late-number : number ≡ lateRefusal ram s (r .value .command)
       late-number = number-read ∙ rw (good, same)
 
-      pub outcome-late : outcomeFor (lateRefusal ram s (r .value .command)) ram s before (r .value) ≡ outcomeOfBytes ram reply s before bytes
+      pub outcome-late :
+          outcomeFor (lateRefusal ram s (r .value .command)) ram s before (r .value) ≡ outcomeOfBytes ram reply s before bytes
       unfolding outcomeOfBytes
       outcome-late = rw (← late-number, same)
 

@@ -19,22 +19,22 @@ module _ (ram reply : List ℕ) (s : Settings) (before : Remembered) (v : Record
   abbrev number : ℕ
   number = refusalOfValue ram (length reply) s v
 
+  -- refused with n: the outcome says so, and nothing has changed
+  abbrev Refused : ℕ → Type 0
+  Refused n =
+      Untouched n ram reply before (outcomeOfValue ram reply s before v) (ramAfterValue ram reply s v)
+      (replyAfterValue ram reply s v)
+
   -- a number that is not 0 refuses
-  stops :
-      (n : ℕ) → number ≡ n → (n ≡ 0 → ⊥) →
-      Untouched n ram reply before (outcomeOfValue ram reply s before v) (ramAfterValue ram reply s v) (replyAfterValue ram reply s v)
+  stops : (n : ℕ) → number ≡ n → (n ≡ 0 → ⊥) → Refused n
   stops n e m = rw e at (value-untouched ram reply s before v (rw e m))
 
-  pub value-early :
-      (n : ℕ) → n ≡ earlyRefusal (length ram) (length reply) s → (n ≡ 0 → ⊥) →
-      Untouched n ram reply before (outcomeOfValue ram reply s before v) (ramAfterValue ram reply s v) (replyAfterValue ram reply s v)
+  pub value-early : (n : ℕ) → n ≡ earlyRefusal (length ram) (length reply) s → (n ≡ 0 → ⊥) → Refused n
   value-early n e m =
       stops n (early-refuses ram (length reply) s false (not (keepsLayout v)) (v .command) (rw (← e) m) ∙ sym e) m
 
   module _ (passed : earlyRefusal (length ram) (length reply) s ≡ 0) where
-    pub value-layout :
-        not (keepsLayout v) ≡ true →
-        Untouched 5 ram reply before (outcomeOfValue ram reply s before v) (ramAfterValue ram reply s v) (replyAfterValue ram reply s v)
+    pub value-layout : not (keepsLayout v) ≡ true → Refused 5
     value-layout b =
         stops 5 (rw (early-passes ram (length reply) s false (not (keepsLayout v)) (v .command) passed, b)) (λ e. omega arith)
 

@@ -14,7 +14,9 @@ refused-outcome-requires c κs = search needs
 returns : tie.Need-returns
 returns c =
     let a = c .before .before .before .before .before .before .args in
-    let u = bytes-early (a .ram .now) (a .reply .now) (a .s) (a .before) (a .bytes .now) _ (c .before .before .early-refusal .ensures) (c .before .if1 .taken) in
+    let u =
+    bytes-early (a .ram .now) (a .reply .now) (a .s) (a .before) (a .bytes .now) _
+    (c .before .before .early-refusal .ensures) (c .before .if1 .taken) in
     (c .refused-outcome .ensures ∙ sym (u .outcome), (sym (u .words), sym (u .buffer)))
 
 read-requires : tie.Need-read-requires
@@ -25,10 +27,12 @@ refused-outcome-requires-2 c κs = search needs
 
 returns-2 : tie.Need-returns-2
 returns-2 c =
-    let a = c .before .before .before .before .before .before .before .before .before .args in
     let t = c .before .before .before .before in
+    let a = t .before .before .before .before .before .args in
     let passed = sym (t .before .early-refusal .ensures) ∙ t .if1 .left in
-    let u = bytes-unread (a .ram .now) (a .reply .now) (a .s) (a .before) (a .bytes .now) passed _ (c .before .before .before .read .ensures) (c .before .if2 .taken) in
+    let u =
+    bytes-unread (a .ram .now) (a .reply .now) (a .s) (a .before) (a .bytes .now) passed _
+    (c .before .before .before .read .ensures) (c .before .if2 .taken) in
     (c .refused-outcome2 .ensures ∙ sym (u .outcome), (sym (u .words), sym (u .buffer)))
 
 serve-requires : tie.Need-serve-requires
@@ -42,8 +46,8 @@ same-length-2 c = search needs
 
 returns-3 : tie.Need-returns-3
 returns-3 c =
-    let a = c .before .before .before .before .before .before .before .before .before .before .before .before .before .before .before .before .args in
     let t = c .before .before .before .before .before .before .before .before .before .before .before in
+    let a = t .before .before .before .before .before .args in
     let passed = sym (t .before .early-refusal .ensures) ∙ t .if1 .left in
     let e = c .before .before .before .before .before .before .before .before .before .before .read .ensures in
     let good = c .before .before .before .before .before .before .before .before .if2 .left in

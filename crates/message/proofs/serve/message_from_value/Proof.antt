@@ -17,7 +17,8 @@ returns : tie.Need-returns
 returns c =
     let a = c .before .before .before .before .before .args in
     let u =
-    value-early (a .ram .now) (a .reply .now) (a .s) (a .before) (a .v) _ (c .before .before .early-refusal .ensures) (c .before .if1 .taken) in
+    value-early (a .ram .now) (a .reply .now) (a .s) (a .before) (a .v) _
+    (c .before .before .early-refusal .ensures) (c .before .if1 .taken) in
     (c .refused-outcome .ensures ∙ sym (u .outcome), (sym (u .words), sym (u .buffer)))
 
 keeps-layout-requires : tie.Need-keeps-layout-requires
@@ -31,8 +32,8 @@ refused-outcome-requires-2 c κs = search needs
 
 returns-2 : tie.Need-returns-2
 returns-2 c =
-    let a = c .before .before .before .before .before .before .before .before .args in
     let t = c .before .before .before .before in
+    let a = t .before .before .before .before .args in
     let passed = sym (t .before .early-refusal .ensures) ∙ t .if1 .left in
     let broken : not (keepsLayout (a .v)) ≡ true = cc in
     let u = value-layout (a .ram .now) (a .reply .now) (a .s) (a .before) (a .v) passed broken in
@@ -49,8 +50,8 @@ same-length-2 c = search needs
 
 returns-3 : tie.Need-returns-3
 returns-3 c =
-    let a = c .before .before .before .before .before .before .before .before .before .before .before .before .before .before .args in
     let t = c .before .before .before .before .before .before .before .before .before .before in
+    let a = t .before .before .before .before .args in
     let passed = sym (t .before .early-refusal .ensures) ∙ t .if1 .left in
     let kept : not (keepsLayout (a .v)) ≡ false = cc in
     let k = c .before .before .before .before .serve .ensures in (

@@ -13,7 +13,9 @@ refused-outcome-requires : tie.Need-refused-outcome-requires
 refused-outcome-requires c κs = search needs
 
 returns : tie.Need-returns
-returns c = absurd (ram-passed _ _ _ _ (c .before .before .before .before .before .pre) (c .before .before .ram-refused .ensures) (c .before .if1 .taken))
+returns c =
+    absurd
+    (ram-passed _ _ _ _ (c .before .before .before .before .before .pre) (c .before .before .ram-refused .ensures) (c .before .if1 .taken))
 
 late-refusal-requires : tie.Need-late-refusal-requires
 late-refusal-requires c κs = search needs
@@ -33,7 +35,8 @@ returns-2 c =
 
 accept-requires : tie.Need-accept-requires
 accept-requires c κs =
-    passed-ready _ _ _ _ _ (c .before .before .before .before .before .before .before .before .before .pre) (c .before .before .before .late-refusal .ensures) (c .before .before .if2 .left)
+    passed-ready _ _ _ _ _ (c .before .before .before .before .before .before .before .before .before .pre)
+    (c .before .before .before .late-refusal .ensures) (c .before .before .if2 .left)
 
 same-length-2 : tie.Need-same-length-2
 same-length-2 c = search needs
