@@ -8,6 +8,7 @@ demo:
 # Every test. The last step is the gate itself, so its last line, 'N passed, 0 failed', is the last line printed.
 test:
 	@rt fmt --check
+	@scripts/prepare
 	@scripts/cargo test --quiet --release
 	@scripts/compare
 	@scripts/compare-traces
