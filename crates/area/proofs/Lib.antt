@@ -1,5 +1,6 @@
 pub mod Turns
 pub mod Lowest
 pub mod Listed
+pub mod Before
 pub mod Whole
 pub mod Determined

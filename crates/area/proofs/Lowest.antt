@@ -1,13 +1,15 @@
 -- The lowest bad number: where none is found none is bad, and the one that is found is bad with none below it.
-use Prim.Native.Nat.{ℕ, zero, suc, _≤_, _<_}
+use Prim.Native.Nat.{ℕ, zero, suc, _+_, _≤_, _<_}
 use native.Mathlib.Omega.{arith}
 use mathlib.Core.Path.{_≡_, refl}
 use mathlib.Core.Logic.{_⊎_, ⊎-elim}
-use mathlib.Core.Bool.{Bool, true, false}
+use mathlib.Core.Bool.{Bool, true, false, cond}
 use lib.Dec.{eqb}
 use borrow.Author.Tests.{eqb-true, eqb-false}
 use Rattle.words.proofs.Basics.{yes-or-no, lt-or-ge}
+use Rattle.windows.proofs.Flags.{not-both}
 use Rattle.area.specs.Area.{orElse, lowest}
+use Rattle.area.proofs.Turns.{lowest-more}
 
 -- k is what the search below n finds; number 0 stands for none
 pub record Lowest (bad : ℕ → Bool) (n k : ℕ) : Type 0 where
@@ -73,3 +75,36 @@ module _ (bad : ℕ → Bool) where
         first = λ j p l. absurd (omega arith);
       }
   lowest-is (suc n) = lowest-step n (lowest bad n) (bad n) refl (lowest-is n)
+
+-- ---- a search that ends at the first bad number
+
+either-zero : (b : Bool) → let zero' : ℕ = 0 in cond b zero' zero' ≡ zero'
+either-zero true = refl
+either-zero false = refl
+
+module _ (bad : ℕ → Bool) where
+  -- number 0 is none
+  pub lowest-start : lowest bad 1 ≡ 0
+  unfolding lowest orElse
+  lowest-start = either-zero (bad 0)
+
+  pub lowest-on : (i : ℕ) → lowest bad i ≡ 0 → bad i ≡ false → lowest bad (i + 1) ≡ 0
+  unfolding orElse
+  lowest-on i e b = rw (lowest-more bad i, e, b)
+
+  pub lowest-found : (n i : ℕ) → 0 < i → i < n → lowest bad i ≡ 0 → bad i ≡ true → lowest bad n ≡ i
+  lowest-found n i p l e b =
+      let f = lowest-is bad n in
+      let k = lowest bad n in
+      ⊎-elim
+      (λ (z : k < 1). absurd (not-both _ b (f .none (omega arith) i p l)))
+      (λ (q : 1 ≤ k).
+      ⊎-elim
+      (λ (h : k < i). absurd (not-both _ (f .found (omega arith)) (lowest-is bad i .none e k (omega arith) h)))
+      (λ (h : i ≤ k).
+      ⊎-elim
+      (λ (g : i < k). absurd (not-both _ b (f .first i p g)))
+      (λ (g : k ≤ i). omega arith)
+      (lt-or-ge i k))
+      (lt-or-ge k i))
+      (lt-or-ge k 1)

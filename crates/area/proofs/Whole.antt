@@ -19,7 +19,8 @@ use Rattle.memory.specs.Map.{ramRefused}
 use Rattle.memory.specs.Kind.{kindOf, cellNumber}
 use Rattle.cells.specs.Cell.{cellAt, soundCell}
 use Rattle.cells.specs.Stack.{stackWindow, stackSound}
-use Rattle.area.specs.Area.{isRead, cellNumbered, isUnsound, lowest, lowestUnsound, areaGrounds, areaRefusal, checkArea}
+use Rattle.area.proofs.Before.{firstFour}
+use Rattle.area.specs.Area.{isRead, cellNumbered, isUnsound, lowest, lowestUnsound, groundsWith, areaGrounds, areaRefusal, checkArea}
 use Rattle.windows.proofs.Flags.{not-both}
 use Rattle.cells.proofs.Sound.{CellSound, sound-cell-facts, cell-facts-sound}
 use Rattle.cells.proofs.Block.{StackSound, stack-sound-facts, stack-facts-sound}
@@ -27,9 +28,6 @@ use Rattle.area.proofs.Lowest.{Lowest, lowest-is}
 use Rattle.area.proofs.Listed.{read-listed, command-read, numbered-cell}
 
 -- the four tests, in the table's order
-abbrev firstFour : Bool → Bool → Bool → Bool → ℕ
-firstFour a b c d = cond a 1 (cond b 3 (cond c 8 (cond d 9 0)))
-
 record None (a b c d : Bool) : Type 0 where
   one : a ≡ false
   three : b ≡ false
@@ -83,7 +81,7 @@ module _ (ram : List ℕ) (s : Settings) where
       areaRefusal ram s
       ≡ firstFour (ramRefused (length ram)) (settingsRefused s) (not (stackSound ram s))
       (not (eqb (lowestUnsound ram s) 0))
-  unfolding areaRefusal areaGrounds firstRefusal inOrder firstOf
+  unfolding areaRefusal areaGrounds groundsWith firstRefusal inOrder firstOf
   four = refl
 
   -- a cell that is read and not bad is sound, and the other way round

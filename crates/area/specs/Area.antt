@@ -43,8 +43,8 @@ unfoldable pub lowestUnsound : List ℕ → Settings → ℕ
 lowestUnsound ram s = lowest (isUnsound ram s (stackWindow ram s)) 96
 
 -- the check is given RAM and settings: 1, 3, 8, 9
-unfoldable pub areaGrounds : List ℕ → Settings → Grounds
-areaGrounds ram s =
+unfoldable pub groundsWith : List ℕ → Settings → Bool → Grounds
+groundsWith ram s unsound =
     record {
       ram = ramRefused (length ram);
       reply = false;
@@ -54,11 +54,18 @@ areaGrounds ram s =
       address = false;
       subaddress = false;
       stack = not (stackSound ram s);
-      cell = not (eqb (lowestUnsound ram s) 0);
+      cell = unsound;
     }
+
+unfoldable pub areaGrounds : List ℕ → Settings → Grounds
+areaGrounds ram s = groundsWith ram s (not (eqb (lowestUnsound ram s) 0))
 
 unfoldable pub areaRefusal : List ℕ → Settings → ℕ
 areaRefusal ram s = firstRefusal (areaGrounds ram s)
+
+-- the same with no cell looked at: 1, 3, 8
+unfoldable pub refusedBefore : List ℕ → Settings → ℕ
+refusedBefore ram s = firstRefusal (groundsWith ram s false)
 
 unfoldable pub checkArea : List ℕ → Settings → Checked
 checkArea ram s =

@@ -1,7 +1,7 @@
 // The whole-area check: refusals 1, 3, 8, and 9 with the lowest unsound cell.
 ghost use mathlib.Core.Path.{_≡_};
 ghost use lib.ListN.{length};
-ghost use Rattle.area.specs.Area.{isRead, cellNumbered, isUnsound, lowest, lowestUnsound, checkArea, orElse};
+ghost use Rattle.area.specs.Area.{isRead, cellNumbered, isUnsound, lowestUnsound, refusedBefore, checkArea};
 use cells::cell::Cell;
 use cells::cell::cell_at;
 use cells::cell::sound_cell;
@@ -48,36 +48,34 @@ pub fn cell_numbered(ram: &[u16], s: Settings, number: u16) -> Cell
 fn is_unsound(ram: &[u16], s: Settings, stack: Window, number: u16) -> bool
     ensures { λ r. ⌜ r ≡ isUnsound (now (ram .entry)) s stack number ⌝ }
 {
-    let c = cell_numbered(ram, s, number);
-    both(is_read(s, number), no(sound_cell(ram.len(), stack, c)))
+    if is_read(s, number) {
+        let c = cell_numbered(ram, s, number);
+        return no(sound_cell(ram.len(), stack, c));
+    }
+    false
 }
 
-fn or_else(found: u16, bad: bool, number: u16) -> u16
-    ensures { λ r. ⌜ r ≡ orElse found bad number ⌝ }
-{
-    pick(found == 0, pick(bad, number, 0), found)
-}
-
-// The lowest unsound cell that the check reads, or 0.
+// The lowest unsound cell that the check reads, or 0. The search ends at the first; number 0 is no cell that is read.
 fn lowest_unsound(ram: &[u16], s: Settings) -> u16
     ensures { λ r. ⌜ r ≡ lowestUnsound (now (ram .entry)) s ⌝ }
 {
     let stack = stack_window(ram, s);
-    let mut found: u16 = 0;
-    let mut i: u16 = 0;
+    let mut i: u16 = 1;
     while i < 96 {
-        found = or_else(found, is_unsound(ram, s, stack, i), i);
+        if is_unsound(ram, s, stack, i) {
+            return i;
+        }
         i += 1;
     }
-    found
+    0
 }
 
-pub fn check_area(ram: &[u16], s: Settings) -> Checked
-    ensures { λ r. ⌜ r ≡ checkArea (now (ram .entry)) s ⌝ }
+// The first of 1, 3 and 8, or 0: what is tested before a cell is looked at.
+fn refused_before(ram: &[u16], s: Settings) -> u16
+    ensures { λ r. ⌜ r ≡ refusedBefore (now (ram .entry)) s ⌝ }
 {
     let sound = stack_sound(ram, s);
-    let cell = lowest_unsound(ram, s);
-    let number = first_refusal(Grounds {
+    first_refusal(Grounds {
         ram: ram_refused(ram.len()),
         reply: false,
         settings: settings_refused(s),
@@ -86,10 +84,20 @@ pub fn check_area(ram: &[u16], s: Settings) -> Checked
         address: false,
         subaddress: false,
         stack: no(sound),
-        cell: cell != 0,
-    });
+        cell: false,
+    })
+}
+
+pub fn check_area(ram: &[u16], s: Settings) -> Checked
+    ensures { λ r. ⌜ r ≡ checkArea (now (ram .entry)) s ⌝ }
+{
+    let number = refused_before(ram, s);
+    if number != 0 {
+        return Checked { number, cell: 0 };
+    }
+    let cell = lowest_unsound(ram, s);
     Checked {
-        number,
-        cell: pick(number == 9, cell, 0),
+        number: pick(cell == 0, 0, 9),
+        cell,
     }
 }

@@ -14,7 +14,7 @@ use Rattle.windows.specs.Window.{runFrom, aligned, placeOf, rollsOver, meets, m
 use Rattle.memory.specs.Kind.{cellNumber, kindNumbered, kindOf}
 use Rattle.cells.specs.Cell.{controlPart, pickScheme, schemeOf, cellAt, windowOf, doubleFits, soundCell}
 use Rattle.cells.specs.Stack.{stackPointer, stackWindow, stackSound}
-use Rattle.area.specs.Area.{isRead, cellNumbered, isUnsound, orElse, lowest, lowestUnsound, areaGrounds, areaRefusal, checkArea}
+use Rattle.area.specs.Area.{isRead, cellNumbered, isUnsound, orElse, lowest, lowestUnsound, groundsWith, areaGrounds, areaRefusal, checkArea}
 use Rattle.arrival.specs.Fault.{expectedWords, faultsOf, faultsFor, anyFault}
 use Rattle.arrival.specs.Target.{cellFor, isIllegal, isBusy, targetOf}
 use Rattle.deed.specs.Deed.{withheld, wordsStored, wordsSent, actWith, actOf, mayMove, stride, moves, motionWith, motionOf}
@@ -155,5 +155,5 @@ expected =
     ∷ []
 
 pub computed : map seen cases ≡ expected
-unfolding wordCount isModeSubaddress stackSizeListed settingsRefused isOwn isBroadcast isNotOurs lastsZero keepsLayout firstOf inOrder firstRefusal ramRefused stackPointerPlace lookupTable busyPlace isBusyAt illegalPlace isIllegalAt runFrom aligned placeOf rollsOver meets meetsFixed cellNumber kindNumbered kindOf controlPart pickScheme schemeOf cellAt windowOf doubleFits soundCell stackPointer stackWindow stackSound isRead cellNumbered isUnsound orElse lowest lowestUnsound areaGrounds areaRefusal checkArea expectedWords faultsOf faultsFor anyFault cellFor isIllegal isBusy targetOf withheld wordsStored wordsSent actWith actOf mayMove stride moves motionWith motionOf blockStatus statusWord reportOf interruptWord deedOf entryOf planOf applyWrites writesTo pointerWrites descriptorOf entryWrites deedWrites stackWrites writesOf replyWrites replyWords cellUnsound groundsFor refusalFor refusedWith acceptedWith rememberedFrom acceptedOutcome outcomeFor ramFor replyFor outcomeOfValue ramAfterValue replyAfterValue stepValue run effectOf effects swapAt exchangeAll wellFormed allWellFormed mayExchange allowedAt allowedAll withoutWrap calm rememberedLast entriesOn lastOf stackWord keptAfter stackAfter rememberedAfter startsWell takesWell asked bench plainRam startOf orderOf saidOf seen
+unfolding wordCount isModeSubaddress stackSizeListed settingsRefused isOwn isBroadcast isNotOurs lastsZero keepsLayout firstOf inOrder firstRefusal ramRefused stackPointerPlace lookupTable busyPlace isBusyAt illegalPlace isIllegalAt runFrom aligned placeOf rollsOver meets meetsFixed cellNumber kindNumbered kindOf controlPart pickScheme schemeOf cellAt windowOf doubleFits soundCell stackPointer stackWindow stackSound isRead cellNumbered isUnsound orElse lowest lowestUnsound groundsWith areaGrounds areaRefusal checkArea expectedWords faultsOf faultsFor anyFault cellFor isIllegal isBusy targetOf withheld wordsStored wordsSent actWith actOf mayMove stride moves motionWith motionOf blockStatus statusWord reportOf interruptWord deedOf entryOf planOf applyWrites writesTo pointerWrites descriptorOf entryWrites deedWrites stackWrites writesOf replyWrites replyWords cellUnsound groundsFor refusalFor refusedWith acceptedWith rememberedFrom acceptedOutcome outcomeFor ramFor replyFor outcomeOfValue ramAfterValue replyAfterValue stepValue run effectOf effects swapAt exchangeAll wellFormed allWellFormed mayExchange allowedAt allowedAll withoutWrap calm rememberedLast entriesOn lastOf stackWord keptAfter stackAfter rememberedAfter startsWell takesWell asked bench plainRam startOf orderOf saidOf seen
 computed = refl

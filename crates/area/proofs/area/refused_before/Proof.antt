@@ -1,0 +1,35 @@
+-- `refused_before` meets its contract: the first refusal, with no cell looked at.
+use borrow.Author.Needs.{needs}
+use Rattle.area.specs.Area.{refusedBefore, groundsWith}
+use Rattle.area.proofs.area.refused_before.Statement.{statement}
+use Rattle.area.proofs.area.refused_before.Tie as tie
+
+stack-sound-requires : tie.Need-stack-sound-requires
+stack-sound-requires c κs = search needs
+
+ram-refused-requires : tie.Need-ram-refused-requires
+ram-refused-requires c κs = search needs
+
+settings-refused-requires : tie.Need-settings-refused-requires
+settings-refused-requires c κs = search needs
+
+no-requires : tie.Need-no-requires
+no-requires c κs = search needs
+
+first-refusal-requires : tie.Need-first-refusal-requires
+first-refusal-requires c κs = search needs
+
+returns : tie.Need-returns
+unfolding refusedBefore groundsWith
+returns c = cc
+
+pub refused-before-spec : {M : Type 1} → statement M
+refused-before-spec =
+    tie.close
+    (tie.spec
+    stack-sound-requires
+    ram-refused-requires
+    settings-refused-requires
+    no-requires
+    first-refusal-requires
+    returns)
