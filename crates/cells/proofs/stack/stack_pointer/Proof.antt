@@ -12,7 +12,7 @@ word-at-requires c κs = search needs
 
 returns : tie.Need-returns
 unfolding stackPointer
-returns c = cc
+returns c = rw (c .word-at .ensures, c .before .stack-pointer-place .ensures)
 
 pub stack-pointer-spec : {M : Type 1} → statement M
 stack-pointer-spec = tie.close (tie.spec stack-pointer-place-requires word-at-requires returns)

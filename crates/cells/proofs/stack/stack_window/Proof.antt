@@ -12,7 +12,7 @@ aligned-around-requires c κs = search needs
 
 returns : tie.Need-returns
 unfolding stackWindow
-returns c = cc
+returns c = rw (c .aligned-around .ensures, c .before .stack-pointer .ensures)
 
 pub stack-window-spec : {M : Type 1} → statement M
 stack-window-spec = tie.close (tie.spec stack-pointer-requires aligned-around-requires returns)
