@@ -9,7 +9,7 @@ either-requires c κs = search needs
 
 returns : tie.Need-returns
 unfolding isModeSubaddress
-returns c = cc
+returns c = rw (c .either .ensures)
 
 pub mode-subaddress-spec : {M : Type 1} → statement M
 mode-subaddress-spec = tie.close (tie.spec either-requires returns)

@@ -9,7 +9,7 @@ pick-requires c κs = search needs
 
 returns : tie.Need-returns
 unfolding wordCount
-returns c = cc
+returns c = rw (c .pick .ensures)
 
 pub word-count-spec : {M : Type 1} → statement M
 word-count-spec = tie.close (tie.spec pick-requires returns)

@@ -9,7 +9,7 @@ address-requires c κs = search needs
 
 returns : tie.Need-returns
 unfolding isBroadcast
-returns c = cc
+returns c = rw (c .address .ensures)
 
 pub is-broadcast-spec : {M : Type 1} → statement M
 is-broadcast-spec = tie.close (tie.spec address-requires returns)

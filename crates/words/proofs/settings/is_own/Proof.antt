@@ -9,7 +9,7 @@ address-requires c κs = search needs
 
 returns : tie.Need-returns
 unfolding isOwn
-returns c = cc
+returns c = rw (c .before .address .ensures)
 
 pub is-own-spec : {M : Type 1} → statement M
 is-own-spec = tie.close (tie.spec address-requires returns)

@@ -15,7 +15,7 @@ either-requires c κs = search needs
 
 returns : tie.Need-returns
 unfolding settingsRefused
-returns c = cc
+returns c = rw (c .either .ensures, c .before .no .ensures, c .before .before .stack-size-listed .ensures)
 
 pub settings-refused-spec : {M : Type 1} → statement M
 settings-refused-spec =

@@ -15,7 +15,7 @@ either-requires-3 c κs = search needs
 
 returns : tie.Need-returns
 unfolding stackSizeListed
-returns c = cc
+returns c = rw (c .either3 .ensures, c .before .either2 .ensures, c .before .before .either .ensures)
 
 pub stack-size-listed-spec : {M : Type 1} → statement M
 stack-size-listed-spec =
