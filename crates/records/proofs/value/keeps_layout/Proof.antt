@@ -15,7 +15,7 @@ both-requires-2 c κs = search needs
 
 returns : tie.Need-returns
 unfolding keepsLayout
-returns c = cc
+returns c = rw (c .both2 .ensures, c .before .lasts-zero .ensures, c .before .before .both .ensures)
 
 pub keeps-layout-spec : {M : Type 1} → statement M
 keeps-layout-spec = tie.close (tie.spec both-requires lasts-zero-requires both-requires-2 returns)
