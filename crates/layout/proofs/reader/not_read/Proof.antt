@@ -9,7 +9,7 @@ zero-value-requires c κs = search needs
 
 returns : tie.Need-returns
 unfolding notRead
-returns c = cc
+returns c = rw (c .zero-value .ensures)
 
 pub not-read-spec : {M : Type 1} → statement M
 not-read-spec = tie.close (tie.spec zero-value-requires returns)
