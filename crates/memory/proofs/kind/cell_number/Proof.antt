@@ -18,7 +18,7 @@ add-result c = search needs
 
 returns : tie.Need-returns
 unfolding cellNumber
-returns c = cc
+returns c = rw (c .kind-number .ensures)
 
 pub cell-number-spec : {M : Type 1} → statement M
 cell-number-spec =

@@ -12,7 +12,7 @@ pick-kind-requires-2 c κs = search needs
 
 returns : tie.Need-returns
 unfolding kindNumbered
-returns c = cc
+returns c = rw (c .pick-kind2 .ensures, c .before .pick-kind .ensures)
 
 pub kind-numbered-spec : {M : Type 1} → statement M
 kind-numbered-spec = tie.close (tie.spec pick-kind-requires pick-kind-requires-2 returns)
