@@ -21,7 +21,7 @@ either-requires c κs = search needs
 
 returns : tie.Need-returns
 unfolding meetsFixed
-returns c = cc
+returns c = rw (c .either .ensures, c .before .runs-meet2 .ensures, c .before .before .runs-meet .ensures)
 
 pub meets-fixed-spec : {M : Type 1} → statement M
 meets-fixed-spec =

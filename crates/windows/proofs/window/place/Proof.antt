@@ -27,7 +27,7 @@ add-result c = omega (arith, mod-le (c .before .before .before .before .args .w 
 
 returns : tie.Need-returns
 unfolding placeOf
-returns c = cc
+returns c = rw (c .remainder .ensures)
 
 pub place-spec : {M : Type 1} → statement M
 place-spec =

@@ -15,7 +15,7 @@ both-requires c κs = search needs
 
 returns : tie.Need-returns
 unfolding meets
-returns c = cc
+returns c = rw (c .both .ensures)
 
 pub runs-meet-spec : {M : Type 1} → statement M
 runs-meet-spec = tie.close (tie.spec add-both add-both-2 both-requires returns)
