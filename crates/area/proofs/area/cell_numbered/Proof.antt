@@ -12,7 +12,7 @@ cell-at-requires c κs = search needs
 
 returns : tie.Need-returns
 unfolding cellNumbered
-returns c = cc
+returns c = rw (c .cell-at .ensures, c .before .kind-numbered .ensures)
 
 pub cell-numbered-spec : {M : Type 1} → statement M
 cell-numbered-spec = tie.close (tie.spec kind-numbered-requires cell-at-requires returns)
