@@ -15,7 +15,7 @@ either-requires-3 c κs = search needs
 
 returns : tie.Need-returns
 unfolding anyFault
-returns c = cc
+returns c = rw (c .either3 .ensures, c .before .either2 .ensures, c .before .before .either .ensures)
 
 pub any-fault-spec : {M : Type 1} → statement M
 any-fault-spec = tie.close (tie.spec either-requires either-requires-2 either-requires-3 returns)

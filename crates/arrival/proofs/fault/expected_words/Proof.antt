@@ -15,7 +15,7 @@ pick-requires c κs = search needs
 
 returns : tie.Need-returns
 unfolding expectedWords
-returns c = cc
+returns c = rw (c .pick .ensures, c .before .word-count .ensures, c .before .before .transmit .ensures)
 
 pub expected-words-spec : {M : Type 1} → statement M
 expected-words-spec =

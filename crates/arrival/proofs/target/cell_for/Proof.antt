@@ -15,7 +15,7 @@ cell-at-requires c κs = search needs
 
 returns : tie.Need-returns
 unfolding cellFor
-returns c = cc
+returns c = rw (c .cell-at .ensures, c .before .subaddress .ensures, c .before .before .kind-of .ensures)
 
 pub cell-for-spec : {M : Type 1} → statement M
 cell-for-spec = tie.close (tie.spec kind-of-requires subaddress-requires cell-at-requires returns)

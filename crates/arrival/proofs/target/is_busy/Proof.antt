@@ -15,7 +15,7 @@ either-requires c κs = search needs
 
 returns : tie.Need-returns
 unfolding isBusy
-returns c = cc
+returns c = rw (c .either .ensures, c .before .is-busy-at .ensures, c .before .before .is-own .ensures)
 
 pub is-busy-spec : {M : Type 1} → statement M
 is-busy-spec = tie.close (tie.spec is-own-requires is-busy-at-requires either-requires returns)

@@ -12,7 +12,7 @@ is-illegal-at-requires c κs = search needs
 
 returns : tie.Need-returns
 unfolding isIllegal
-returns c = cc
+returns c = rw (c .is-illegal-at .ensures, c .before .is-own .ensures)
 
 pub is-illegal-spec : {M : Type 1} → statement M
 is-illegal-spec = tie.close (tie.spec is-own-requires is-illegal-at-requires returns)
