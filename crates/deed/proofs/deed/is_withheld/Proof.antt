@@ -15,7 +15,7 @@ either-requires c κs = search needs
 
 returns : tie.Need-returns
 unfolding withheld
-returns c = cc
+returns c = rw (c .either .ensures, c .before .both2 .ensures, c .before .before .both .ensures)
 
 pub is-withheld-spec : {M : Type 1} → statement M
 is-withheld-spec = tie.close (tie.spec both-requires both-requires-2 either-requires returns)

@@ -12,7 +12,7 @@ motion-with-requires c κs = search needs
 
 returns : tie.Need-returns
 unfolding motionOf
-returns c = cc
+returns c = rw (c .motion-with .ensures, c .before .moves-at .ensures)
 
 pub motion-of-spec : {M : Type 1} → statement M
 motion-of-spec = tie.close (tie.spec moves-at-requires motion-with-requires returns)

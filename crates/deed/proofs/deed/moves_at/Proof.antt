@@ -12,7 +12,7 @@ both-requires c κs = search needs
 
 returns : tie.Need-returns
 unfolding moves
-returns c = cc
+returns c = rw (c .both .ensures, c .before .may-move .ensures)
 
 pub moves-at-spec : {M : Type 1} → statement M
 moves-at-spec = tie.close (tie.spec may-move-requires both-requires returns)
