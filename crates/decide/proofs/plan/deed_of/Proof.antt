@@ -15,7 +15,7 @@ report-of-requires c κs = search needs
 
 returns : tie.Need-returns
 unfolding deedOf
-returns c = cc
+returns c = rw (c .report-of .ensures, c .before .motion-of .ensures, c .before .before .act-of .ensures)
 
 pub deed-of-spec : {M : Type 1} → statement M
 deed-of-spec = tie.close (tie.spec act-of-requires motion-of-requires report-of-requires returns)

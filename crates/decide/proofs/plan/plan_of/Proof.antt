@@ -16,7 +16,7 @@ entry-of-requires c κs = search needs
 
 returns : tie.Need-returns
 unfolding planOf
-returns c = cc
+returns c = rw (c .entry-of .ensures, c .before .deed-of .ensures, c .before .before .target-of .ensures)
 
 pub plan-of-spec : {M : Type 1} → statement M
 plan-of-spec = tie.close (tie.spec target-of-requires deed-of-requires entry-of-requires returns)
