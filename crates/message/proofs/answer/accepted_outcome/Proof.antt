@@ -9,7 +9,7 @@ accepted-with-requires c κs = search needs
 
 returns : tie.Need-returns
 unfolding acceptedOutcome rememberedFrom
-returns c = cc
+returns c = rw (c .accepted-with .ensures)
 
 pub accepted-outcome-spec : {M : Type 1} → statement M
 accepted-outcome-spec = tie.close (tie.spec accepted-with-requires returns)

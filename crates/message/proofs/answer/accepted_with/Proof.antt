@@ -9,7 +9,7 @@ interrupt-word-requires c κs = search needs
 
 returns : tie.Need-returns
 unfolding acceptedWith
-returns c = cc
+returns c = rw (c .interrupt-word .ensures)
 
 pub accepted-with-spec : {M : Type 1} → statement M
 accepted-with-spec = tie.close (tie.spec interrupt-word-requires returns)

@@ -7,7 +7,7 @@ refused-with-requires : tie.Need-refused-with-requires
 refused-with-requires c κs = search needs
 
 returns : tie.Need-returns
-returns c = cc
+returns c = rw (c .refused-with .ensures)
 
 pub refused-outcome-spec : {M : Type 1} → statement M
 refused-outcome-spec = tie.close (tie.spec refused-with-requires returns)
