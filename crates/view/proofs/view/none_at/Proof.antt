@@ -10,7 +10,7 @@ zero-value-requires c κs = search needs
 
 returns : tie.Need-returns
 unfolding noneAt notRead
-returns c = cc
+returns c = rw (c .zero-value .ensures)
 
 pub none-at-spec : {M : Type 1} → statement M
 none-at-spec = tie.close (tie.spec zero-value-requires returns)
