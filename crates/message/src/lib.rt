@@ -1,4 +1,4 @@
-// The third layer, second half: one message is tested, and then refused or carried out by its plan.
+// The third layer: one message is tested, and then refused or carried out by its plan.
 // Document 01, "What one message does" and "Numbers that refuse".
 pub mod answer;
 pub mod serve;

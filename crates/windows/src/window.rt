@@ -12,10 +12,16 @@ pub struct Window {
     pub offset: u16,
 }
 
-// The remainder; x itself where n is 0, as in the definitions.
+// The remainder; x itself where n is 0, as in the definitions. A place passes a window's end once at most, so no division is made.
 fn remainder(x: usize, n: usize) -> usize
     ensures { λ r. ⌜ r ≡ x % n ⌝ }
 {
+    if x < n {
+        return x;
+    }
+    if x - n < n {
+        return x - n;
+    }
     if n == 0 { x } else { x % n }
 }
 

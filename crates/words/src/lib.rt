@@ -1,4 +1,4 @@
-// The bottom layer, first half: command words, settings, the order of refusals. Document 01, "Words, records, settings".
+// The bottom layer: command words, settings, the order of refusals. Document 01, "Words, records, settings".
 pub mod choose;
 pub mod command;
 pub mod refusal;

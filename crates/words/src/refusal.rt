@@ -1,4 +1,5 @@
-// The order of the numbers that refuse: the message and the whole-area check ask `first_refusal`; reader and writer have short lists.
+// The order of the numbers that refuse: the whole-area check asks `first_refusal`; a message asks its tests in turn, and reader and writer
+// have short lists.
 ghost use mathlib.Core.Path.{_≡_};
 ghost use Rattle.words.specs.Refusal.{firstRefusal};
 use crate::choose::pick;
