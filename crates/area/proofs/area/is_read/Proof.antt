@@ -18,7 +18,13 @@ both-requires-3 c κs = search needs
 
 returns : tie.Need-returns
 unfolding isRead
-returns c = rw (c .both3 .ensures, c .before .either .ensures, c .before .before .both2 .ensures, c .before .before .before .both .ensures)
+returns c =
+    rw (
+      c .both3 .ensures,
+      c .before .either .ensures,
+      c .before .before .both2 .ensures,
+      c .before .before .before .both .ensures,
+    )
 
 pub is-read-spec : {M : Type 1} → statement M
 is-read-spec =

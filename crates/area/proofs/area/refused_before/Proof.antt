@@ -21,7 +21,14 @@ first-refusal-requires c κs = search needs
 
 returns : tie.Need-returns
 unfolding refusedBefore groundsWith
-returns c = rw (c .first-refusal .ensures, c .before .no .ensures, c .before .before .settings-refused .ensures, c .before .before .before .ram-refused .ensures, c .before .before .before .before .stack-sound .ensures)
+returns c =
+    rw (
+      c .first-refusal .ensures,
+      c .before .no .ensures,
+      c .before .before .settings-refused .ensures,
+      c .before .before .before .ram-refused .ensures,
+      c .before .before .before .before .stack-sound .ensures,
+    )
 
 pub refused-before-spec : {M : Type 1} → statement M
 refused-before-spec =

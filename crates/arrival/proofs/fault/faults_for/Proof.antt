@@ -18,7 +18,13 @@ faults-of-requires c κs = search needs
 
 returns : tie.Need-returns
 unfolding faultsFor
-returns c = rw (c .faults-of .ensures, c .before .both .ensures, c .before .before .transmit .ensures, c .before .before .before .expected-words .ensures)
+returns c =
+    rw (
+      c .faults-of .ensures,
+      c .before .both .ensures,
+      c .before .before .transmit .ensures,
+      c .before .before .before .expected-words .ensures,
+    )
 
 pub faults-for-spec : {M : Type 1} → statement M
 faults-for-spec =

@@ -27,7 +27,15 @@ both-requires c κs = search needs
 
 returns : tie.Need-returns
 unfolding faultsOf
-returns c = rw (c .both .ensures, c .before .no2 .ensures, c .before .before .either .ensures, c .before .before .before .no .ensures, c .before .before .before .before .before .invalid-word .ensures, c .before .before .before .before .before .before .wrong-sync .ensures)
+returns c =
+    rw (
+      c .both .ensures,
+      c .before .no2 .ensures,
+      c .before .before .either .ensures,
+      c .before .before .before .no .ensures,
+      c .before .before .before .before .before .invalid-word .ensures,
+      c .before .before .before .before .before .before .wrong-sync .ensures,
+    )
 
 pub faults-of-spec : {M : Type 1} → statement M
 faults-of-spec =

@@ -35,7 +35,17 @@ is-busy-requires c κs = search needs
 
 returns : tie.Need-returns
 unfolding targetOf
-returns c = rw (c .is-busy .ensures, c .before .is-illegal .ensures, c .before .before .is-broadcast .ensures, c .before .before .before .window-of .ensures, c .before .before .before .before .cell-number .ensures, c .before .before .before .before .before .subaddress .ensures, c .before .before .before .before .before .before .kind-of .ensures, c .before .before .before .before .before .before .before .cell-for .ensures)
+returns c =
+    rw (
+      c .is-busy .ensures,
+      c .before .is-illegal .ensures,
+      c .before .before .is-broadcast .ensures,
+      c .before .before .before .window-of .ensures,
+      c .before .before .before .before .cell-number .ensures,
+      c .before .before .before .before .before .subaddress .ensures,
+      c .before .before .before .before .before .before .kind-of .ensures,
+      c .before .before .before .before .before .before .before .cell-for .ensures,
+    )
 
 pub target-of-spec : {M : Type 1} → statement M
 target-of-spec =

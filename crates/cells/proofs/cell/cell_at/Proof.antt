@@ -34,7 +34,16 @@ scheme-of-requires c κs = search needs
 
 returns : tie.Need-returns
 unfolding cellAt
-returns c = rw (c .scheme-of .ensures, c .before .word-at2 .ensures, c .before .before .cell-number .ensures, c .before .before .before .lookup-table .ensures, c .before .before .before .before .control-part .ensures, c .before .before .before .before .before .word-at .ensures, c .before .before .before .before .before .before .control-place .ensures)
+returns c =
+    rw (
+      c .scheme-of .ensures,
+      c .before .word-at2 .ensures,
+      c .before .before .cell-number .ensures,
+      c .before .before .before .lookup-table .ensures,
+      c .before .before .before .before .control-part .ensures,
+      c .before .before .before .before .before .word-at .ensures,
+      c .before .before .before .before .before .before .control-place .ensures,
+    )
 
 pub cell-at-spec : {M : Type 1} → statement M
 cell-at-spec =

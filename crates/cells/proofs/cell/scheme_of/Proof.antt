@@ -18,7 +18,13 @@ pick-scheme-requires c κs = search needs
 
 returns : tie.Need-returns
 unfolding schemeOf
-returns c = rw (c .pick-scheme .ensures, c .before .both .ensures, c .before .before .doubles-kind .ensures, c .before .before .before .control-part .ensures)
+returns c =
+    rw (
+      c .pick-scheme .ensures,
+      c .before .both .ensures,
+      c .before .before .doubles-kind .ensures,
+      c .before .before .before .control-part .ensures,
+    )
 
 pub scheme-of-spec : {M : Type 1} → statement M
 scheme-of-spec =

@@ -39,7 +39,19 @@ both-requires-3 c κs = search needs
 
 returns : tie.Need-returns
 unfolding soundCell
-returns c = rw (c .both3 .ensures, c .before .both2 .ensures, c .before .before .double-fits .ensures, c .before .before .before .no .ensures, c .before .before .before .before .either .ensures, c .before .before .before .before .before .windows-meet .ensures, c .before .before .before .before .before .before .meets-fixed .ensures, c .before .before .before .before .before .before .before .both .ensures, c .before .before .before .before .before .before .before .before .fits-below .ensures, c .before .before .before .before .before .before .before .before .before .before .window-of .ensures)
+returns c =
+    rw (
+      c .both3 .ensures,
+      c .before .both2 .ensures,
+      c .before .before .double-fits .ensures,
+      c .before .before .before .no .ensures,
+      c .before .before .before .before .either .ensures,
+      c .before .before .before .before .before .windows-meet .ensures,
+      c .before .before .before .before .before .before .meets-fixed .ensures,
+      c .before .before .before .before .before .before .before .both .ensures,
+      c .before .before .before .before .before .before .before .before .fits-below .ensures,
+      c .before .before .before .before .before .before .before .before .before .before .window-of .ensures,
+    )
 
 pub sound-cell-spec : {M : Type 1} → statement M
 sound-cell-spec =

@@ -36,7 +36,17 @@ both-requires-3 c κs = search needs
 
 returns : tie.Need-returns
 unfolding stackSound
-returns c = rw (c .both3 .ensures, c .before .both2 .ensures, c .before .before .no .ensures, c .before .before .before .meets-fixed .ensures, c .before .before .before .before .fits-below .ensures, c .before .before .before .before .before .both .ensures, c .before .before .before .before .before .before .stack-window .ensures, c .before .before .before .before .before .before .before .stack-pointer .ensures)
+returns c =
+    rw (
+      c .both3 .ensures,
+      c .before .both2 .ensures,
+      c .before .before .no .ensures,
+      c .before .before .before .meets-fixed .ensures,
+      c .before .before .before .before .fits-below .ensures,
+      c .before .before .before .before .before .both .ensures,
+      c .before .before .before .before .before .before .stack-window .ensures,
+      c .before .before .before .before .before .before .before .stack-pointer .ensures,
+    )
 
 pub stack-sound-spec : {M : Type 1} → statement M
 stack-sound-spec =

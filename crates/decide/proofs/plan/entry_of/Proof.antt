@@ -23,7 +23,13 @@ rolls-over-requires c κs = search needs
 
 returns : tie.Need-returns
 unfolding entryOf
-returns c = rw (c .rolls-over .ensures, c .before .place .ensures, c .before .before .stack-pointer .ensures, c .before .before .before .stack-window .ensures)
+returns c =
+    rw (
+      c .rolls-over .ensures,
+      c .before .place .ensures,
+      c .before .before .stack-pointer .ensures,
+      c .before .before .before .stack-window .ensures,
+    )
 
 pub entry-of-spec : {M : Type 1} → statement M
 entry-of-spec =

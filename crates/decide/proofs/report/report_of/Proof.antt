@@ -21,7 +21,14 @@ both-requires c κs = search needs
 
 returns : tie.Need-returns
 unfolding reportOf
-returns c = rw (c .both .ensures, c .before .no .ensures, c .before .before .status-word .ensures, c .before .before .before .block-status .ensures, c .before .before .before .before .bus-b .ensures)
+returns c =
+    rw (
+      c .both .ensures,
+      c .before .no .ensures,
+      c .before .before .status-word .ensures,
+      c .before .before .before .block-status .ensures,
+      c .before .before .before .before .bus-b .ensures,
+    )
 
 pub report-of-spec : {M : Type 1} → statement M
 report-of-spec =

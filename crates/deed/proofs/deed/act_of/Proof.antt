@@ -18,7 +18,13 @@ act-with-requires c κs = search needs
 
 returns : tie.Need-returns
 unfolding actOf
-returns c = rw (c .act-with .ensures, c .before .no .ensures, c .before .before .any-fault .ensures, c .before .before .before .faults-for .ensures)
+returns c =
+    rw (
+      c .act-with .ensures,
+      c .before .no .ensures,
+      c .before .before .any-fault .ensures,
+      c .before .before .before .faults-for .ensures,
+    )
 
 pub act-of-spec : {M : Type 1} → statement M
 act-of-spec =

@@ -18,7 +18,13 @@ pick-requires c κs = search needs
 
 returns : tie.Need-returns
 unfolding actWith
-returns c = rw (c .pick .ensures, c .before .transmit .ensures, c .before .before .words-sent .ensures, c .before .before .before .words-stored .ensures)
+returns c =
+    rw (
+      c .pick .ensures,
+      c .before .transmit .ensures,
+      c .before .before .words-sent .ensures,
+      c .before .before .before .words-stored .ensures,
+    )
 
 pub act-with-spec : {M : Type 1} → statement M
 act-with-spec =

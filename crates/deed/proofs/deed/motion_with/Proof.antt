@@ -32,7 +32,16 @@ both-requires-2 c κs = search needs
 
 returns : tie.Need-returns
 unfolding motionWith
-returns c = rw (c .both2 .ensures, c .before .rolls-over .ensures, c .before .before .both .ensures, c .before .before .before .is-circular .ensures, c .before .before .before .before .pick .ensures, c .before .before .before .before .before .place .ensures, c .before .before .before .before .before .before .stride-of .ensures)
+returns c =
+    rw (
+      c .both2 .ensures,
+      c .before .rolls-over .ensures,
+      c .before .before .both .ensures,
+      c .before .before .before .is-circular .ensures,
+      c .before .before .before .before .pick .ensures,
+      c .before .before .before .before .before .place .ensures,
+      c .before .before .before .before .before .before .stride-of .ensures,
+    )
 
 pub motion-with-spec : {M : Type 1} → statement M
 motion-with-spec =

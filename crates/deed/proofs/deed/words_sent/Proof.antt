@@ -30,7 +30,17 @@ pick-requires c κs = search needs
 
 returns : tie.Need-returns
 unfolding wordsSent
-returns c = rw (c .pick .ensures, c .before .word-count .ensures, c .before .before .both3 .ensures, c .before .before .before .both2 .ensures, c .before .before .before .before .both .ensures, c .before .before .before .before .before .no2 .ensures, c .before .before .before .before .before .before .no .ensures, c .before .before .before .before .before .before .before .transmit .ensures)
+returns c =
+    rw (
+      c .pick .ensures,
+      c .before .word-count .ensures,
+      c .before .before .both3 .ensures,
+      c .before .before .before .both2 .ensures,
+      c .before .before .before .before .both .ensures,
+      c .before .before .before .before .before .no2 .ensures,
+      c .before .before .before .before .before .before .no .ensures,
+      c .before .before .before .before .before .before .before .transmit .ensures,
+    )
 
 pub words-sent-spec : {M : Type 1} → statement M
 words-sent-spec =

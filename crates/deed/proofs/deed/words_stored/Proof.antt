@@ -27,7 +27,15 @@ pick-requires c κs = search needs
 
 returns : tie.Need-returns
 unfolding wordsStored
-returns c = rw (c .pick .ensures, c .before .smaller .ensures, c .before .before .word-count .ensures, c .before .before .before .before .either .ensures, c .before .before .before .before .before .is-withheld .ensures, c .before .before .before .before .before .before .transmit .ensures)
+returns c =
+    rw (
+      c .pick .ensures,
+      c .before .smaller .ensures,
+      c .before .before .word-count .ensures,
+      c .before .before .before .before .either .ensures,
+      c .before .before .before .before .before .is-withheld .ensures,
+      c .before .before .before .before .before .before .transmit .ensures,
+    )
 
 pub words-stored-spec : {M : Type 1} → statement M
 words-stored-spec =

@@ -36,7 +36,19 @@ both-requires-2 c κs = search needs
 
 returns : tie.Need-returns
 unfolding mayExchange
-returns c = rw (c .both2 .ensures, c .before .either .ensures, c .before .before .both .ensures, c .before .before .before .transmit2 .ensures, c .before .before .before .before .transmit .ensures, c .before .before .before .before .before .no2 .ensures, c .before .before .before .before .before .before .windows-meet .ensures, c .before .before .before .before .before .before .before .no .ensures, c .before .before .before .before .before .before .before .before .before .before .target-of2 .ensures, c .before .before .before .before .before .before .before .before .before .before .before .target-of .ensures)
+returns c =
+    rw (
+      c .both2 .ensures,
+      c .before .either .ensures,
+      c .before .before .both .ensures,
+      c .before .before .before .transmit2 .ensures,
+      c .before .before .before .before .transmit .ensures,
+      c .before .before .before .before .before .no2 .ensures,
+      c .before .before .before .before .before .before .windows-meet .ensures,
+      c .before .before .before .before .before .before .before .no .ensures,
+      c .before .before .before .before .before .before .before .before .before .before .target-of2 .ensures,
+      c .before .before .before .before .before .before .before .before .before .before .before .target-of .ensures,
+    )
 
 pub may-exchange-spec : {M : Type 1} → statement M
 may-exchange-spec =

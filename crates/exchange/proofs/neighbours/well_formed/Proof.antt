@@ -27,7 +27,16 @@ both-requires-2 c κs = search needs
 
 returns : tie.Need-returns
 unfolding wellFormed
-returns c = rw (c .both2 .ensures, c .before .both .ensures, c .before .before .no2 .ensures, c .before .before .before .mode-subaddress .ensures, c .before .before .before .before .no .ensures, c .before .before .before .before .before .is-not-ours .ensures, c .before .before .before .before .before .before .keeps-layout .ensures)
+returns c =
+    rw (
+      c .both2 .ensures,
+      c .before .both .ensures,
+      c .before .before .no2 .ensures,
+      c .before .before .before .mode-subaddress .ensures,
+      c .before .before .before .before .no .ensures,
+      c .before .before .before .before .before .is-not-ours .ensures,
+      c .before .before .before .before .before .before .keeps-layout .ensures,
+    )
 
 pub well-formed-spec : {M : Type 1} → statement M
 well-formed-spec =

@@ -21,7 +21,12 @@ shared-slice-read-t8 c = search needs
 
 returns : tie.Need-returns
 unfolding valueIn
-returns c = rw (c .before .before .word-at2 .ensures, c .before .before .before .word-at .ensures, c .before .before .before .before .words-in .ensures)
+returns c =
+    rw (
+      c .before .before .word-at2 .ensures,
+      c .before .before .before .word-at .ensures,
+      c .before .before .before .before .words-in .ensures,
+    )
 
 pub value-in-spec : {M : Type 1} → statement M
 value-in-spec =

@@ -21,7 +21,14 @@ pick-kind-requires-2 c κs = search needs
 
 returns : tie.Need-returns
 unfolding kindOf
-returns c = rw (c .pick-kind2 .ensures, c .before .pick-kind .ensures, c .before .before .transmit .ensures, c .before .before .before .both .ensures, c .before .before .before .before .is-broadcast .ensures)
+returns c =
+    rw (
+      c .pick-kind2 .ensures,
+      c .before .pick-kind .ensures,
+      c .before .before .transmit .ensures,
+      c .before .before .before .both .ensures,
+      c .before .before .before .before .is-broadcast .ensures,
+    )
 
 pub kind-of-spec : {M : Type 1} → statement M
 kind-of-spec =

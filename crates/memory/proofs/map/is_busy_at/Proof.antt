@@ -18,7 +18,13 @@ bit-set-requires c κs = search needs
 
 returns : tie.Need-returns
 unfolding isBusyAt
-returns c = rw (c .bit-set .ensures, c .before .subaddress .ensures, c .before .before .word-at .ensures, c .before .before .before .busy-place .ensures)
+returns c =
+    rw (
+      c .bit-set .ensures,
+      c .before .subaddress .ensures,
+      c .before .before .word-at .ensures,
+      c .before .before .before .busy-place .ensures,
+    )
 
 pub is-busy-at-spec : {M : Type 1} → statement M
 is-busy-at-spec =

@@ -18,7 +18,13 @@ bit-set-requires c κs = search needs
 
 returns : tie.Need-returns
 unfolding isIllegalAt
-returns c = rw (c .bit-set .ensures, c .before .count-field .ensures, c .before .before .word-at .ensures, c .before .before .before .illegal-place .ensures)
+returns c =
+    rw (
+      c .bit-set .ensures,
+      c .before .count-field .ensures,
+      c .before .before .word-at .ensures,
+      c .before .before .before .illegal-place .ensures,
+    )
 
 pub is-illegal-at-spec : {M : Type 1} → statement M
 is-illegal-at-spec =

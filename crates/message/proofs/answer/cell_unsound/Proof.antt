@@ -18,7 +18,13 @@ no-requires c κs = search needs
 
 returns : tie.Need-returns
 unfolding cellUnsound
-returns c = rw (c .no .ensures, c .before .sound-cell .ensures, c .before .before .cell-for .ensures, c .before .before .before .stack-window .ensures)
+returns c =
+    rw (
+      c .no .ensures,
+      c .before .sound-cell .ensures,
+      c .before .before .cell-for .ensures,
+      c .before .before .before .stack-window .ensures,
+    )
 
 pub cell-unsound-spec : {M : Type 1} → statement M
 cell-unsound-spec =

@@ -33,7 +33,18 @@ pick-requires-9 c κs = search needs
 
 returns : tie.Need-returns
 unfolding firstRefusal inOrder firstOf
-returns c = rw (c .pick9 .ensures, c .before .pick8 .ensures, c .before .before .pick7 .ensures, c .before .before .before .pick6 .ensures, c .before .before .before .before .pick5 .ensures, c .before .before .before .before .before .pick4 .ensures, c .before .before .before .before .before .before .pick3 .ensures, c .before .before .before .before .before .before .before .pick2 .ensures, c .before .before .before .before .before .before .before .before .pick .ensures)
+returns c =
+    rw (
+      c .pick9 .ensures,
+      c .before .pick8 .ensures,
+      c .before .before .pick7 .ensures,
+      c .before .before .before .pick6 .ensures,
+      c .before .before .before .before .pick5 .ensures,
+      c .before .before .before .before .before .pick4 .ensures,
+      c .before .before .before .before .before .before .pick3 .ensures,
+      c .before .before .before .before .before .before .before .pick2 .ensures,
+      c .before .before .before .before .before .before .before .before .pick .ensures,
+    )
 
 pub first-refusal-spec : {M : Type 1} → statement M
 first-refusal-spec =

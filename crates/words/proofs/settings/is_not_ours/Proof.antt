@@ -21,7 +21,14 @@ both-requires c κs = search needs
 
 returns : tie.Need-returns
 unfolding isNotOurs
-returns c = rw (c .both .ensures, c .before .no2 .ensures, c .before .before .is-broadcast .ensures, c .before .before .before .no .ensures, c .before .before .before .before .is-own .ensures)
+returns c =
+    rw (
+      c .both .ensures,
+      c .before .no2 .ensures,
+      c .before .before .is-broadcast .ensures,
+      c .before .before .before .no .ensures,
+      c .before .before .before .before .is-own .ensures,
+    )
 
 pub is-not-ours-spec : {M : Type 1} → statement M
 is-not-ours-spec =
