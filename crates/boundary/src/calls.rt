@@ -5,9 +5,8 @@ ghost use Rattle.layout.specs.Writing.{writeRecord};
 ghost use Rattle.area.specs.Area.{checkArea};
 ghost use Rattle.message.specs.Message.{outcomeOfBytes, ramAfterBytes, replyAfterBytes, outcomeOfValue, ramAfterValue, replyAfterValue};
 ghost use Rattle.boundary.specs.Boundary.{settingsFrom, rememberedFrom, rememberedInto, answerInto, valueFrom, valueInto, bytesInto, checkWord};
-use crate::plain::put_answer;
 use crate::plain::put_bytes;
-use crate::plain::put_remembered;
+use crate::plain::put_outcome;
 use crate::plain::put_value;
 use crate::plain::remembered_from;
 use crate::plain::settings_from;
@@ -42,17 +41,10 @@ pub extern "C" fn solkverva_message(
     ensures remembered { λ r. ⌜ now (remembered .exit) ≡ rememberedInto (now (remembered .entry)) (outcomeOfBytes (now (ram .entry)) (now (reply .entry)) (settingsFrom (now (settings .entry))) (rememberedFrom (now (remembered .entry))) (now (bytes .entry)) .remembered) ⌝ }
     ensures answer { λ r. ⌜ now (answer .exit) ≡ answerInto (now (answer .entry)) (outcomeOfBytes (now (ram .entry)) (now (reply .entry)) (settingsFrom (now (settings .entry))) (rememberedFrom (now (remembered .entry))) (now (bytes .entry)) .answer) ⌝ }
 {
-    let o = message_from_bytes(
-        ram,
-        reply,
-        settings_from(settings),
-        remembered_from(remembered),
-        bytes,
-    );
-    let a = o.answer;
-    let m = o.remembered;
-    put_remembered(remembered, m);
-    put_answer(answer, a);
+    let s = settings_from(settings);
+    let m = remembered_from(remembered);
+    let o = message_from_bytes(ram, reply, s, m, bytes);
+    put_outcome(remembered, answer, o);
 }
 
 // One message from a record value.
@@ -70,18 +62,11 @@ pub extern "C" fn solkverva_message_value(
     ensures remembered { λ r. ⌜ now (remembered .exit) ≡ rememberedInto (now (remembered .entry)) (outcomeOfValue (now (ram .entry)) (now (reply .entry)) (settingsFrom (now (settings .entry))) (rememberedFrom (now (remembered .entry))) (valueFrom (now (value .entry))) .remembered) ⌝ }
     ensures answer { λ r. ⌜ now (answer .exit) ≡ answerInto (now (answer .entry)) (outcomeOfValue (now (ram .entry)) (now (reply .entry)) (settingsFrom (now (settings .entry))) (rememberedFrom (now (remembered .entry))) (valueFrom (now (value .entry))) .answer) ⌝ }
 {
+    let s = settings_from(settings);
+    let m = remembered_from(remembered);
     let v = value_from(value);
-    let o = message_from_value(
-        ram,
-        reply,
-        settings_from(settings),
-        remembered_from(remembered),
-        v,
-    );
-    let a = o.answer;
-    let m = o.remembered;
-    put_remembered(remembered, m);
-    put_answer(answer, a);
+    let o = message_from_value(ram, reply, s, m, v);
+    put_outcome(remembered, answer, o);
 }
 
 // The record reader.

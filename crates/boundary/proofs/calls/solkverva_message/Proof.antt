@@ -12,11 +12,8 @@ remembered-from-requires c κs = search needs
 message-from-bytes-requires : tie.Need-message-from-bytes-requires
 message-from-bytes-requires c κs = search needs
 
-put-remembered-requires : tie.Need-put-remembered-requires
-put-remembered-requires c κs = search needs
-
-put-answer-requires : tie.Need-put-answer-requires
-put-answer-requires c κs = search needs
+put-outcome-requires : tie.Need-put-outcome-requires
+put-outcome-requires c κs = search needs
 
 same-length : tie.Need-same-length
 same-length c = search needs
@@ -40,8 +37,7 @@ solkverva-message-spec =
     settings-from-requires
     remembered-from-requires
     message-from-bytes-requires
-    put-remembered-requires
-    put-answer-requires
+    put-outcome-requires
     same-length
     same-length-2
     same-length-3

@@ -3,23 +3,20 @@ use borrow.Author.Needs.{needs}
 use Rattle.boundary.proofs.calls.solkverva_message_value.Statement.{statement}
 use Rattle.boundary.proofs.calls.solkverva_message_value.Tie as tie
 
-value-from-requires : tie.Need-value-from-requires
-value-from-requires c κs = search needs
-
 settings-from-requires : tie.Need-settings-from-requires
 settings-from-requires c κs = search needs
 
 remembered-from-requires : tie.Need-remembered-from-requires
 remembered-from-requires c κs = search needs
 
+value-from-requires : tie.Need-value-from-requires
+value-from-requires c κs = search needs
+
 message-from-value-requires : tie.Need-message-from-value-requires
 message-from-value-requires c κs = search needs
 
-put-remembered-requires : tie.Need-put-remembered-requires
-put-remembered-requires c κs = search needs
-
-put-answer-requires : tie.Need-put-answer-requires
-put-answer-requires c κs = search needs
+put-outcome-requires : tie.Need-put-outcome-requires
+put-outcome-requires c κs = search needs
 
 same-length : tie.Need-same-length
 same-length c = search needs
@@ -40,12 +37,11 @@ pub solkverva-message-value-spec : {M : Type 1} → statement M
 solkverva-message-value-spec =
     tie.close
     (tie.spec
-    value-from-requires
     settings-from-requires
     remembered-from-requires
+    value-from-requires
     message-from-value-requires
-    put-remembered-requires
-    put-answer-requires
+    put-outcome-requires
     same-length
     same-length-2
     same-length-3

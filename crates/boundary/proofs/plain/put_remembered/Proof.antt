@@ -1,6 +1,7 @@
 -- `put_remembered` meets its contract: two words in a row.
 use borrow.Author.Needs.{needs}
 use Rattle.boundary.specs.Boundary.{rememberedInto}
+use Rattle.boundary.proofs.Over.{two-back}
 use Rattle.boundary.proofs.plain.put_remembered.Statement.{statement}
 use Rattle.boundary.proofs.plain.put_remembered.Tie as tie
 
@@ -15,7 +16,7 @@ same-length c = search needs
 
 returns : tie.Need-returns
 unfolding rememberedInto
-returns c = cc
+returns c = rw two-back (cc)
 
 pub put-remembered-spec : {M : Type 1} → statement M
 put-remembered-spec = tie.close (tie.spec put-requires put-requires-2 same-length returns)

@@ -1,34 +1,44 @@
 -- `put_words` meets its contract. The loop's invariant: the first `k` words are put.
 use borrow.Author.Needs.{needs}
-use Prim.Native.Nat.{_≤_, _-_}
 use native.Mathlib.Omega.{arith}
-use mathlib.Core.Path.{_≡_, refl}
+use Prim.Native.Nat.{_≤_, _-_}
+use mathlib.Core.Path.{_≡_, refl, _∙_}
+use lib.ListN.{length}
 use Rattle.boundary.specs.Boundary.{over}
-use Rattle.boundary.proofs.Over.{over-more, length-over}
+use Rattle.boundary.proofs.Over.{over-more, over-whole}
 use Rattle.boundary.proofs.plain.put_words.Statement.{statement}
 use Rattle.boundary.proofs.plain.put_words.Tie as tie
 
 abbrev Inv-loop : tie.InvT-loop
-Inv-loop xs₀ words k₀ xs k = (k ≤ 32) × (xs ≡ over xs₀ words 4 k)
+Inv-loop xs₀ words room k₀ xs k = (k ≤ 32) × ((length xs ≡ length xs₀) × (xs ≡ over xs₀ words 4 k))
 
 abbrev μ-loop : tie.MeasureT-loop
-μ-loop xs₀ words k₀ xs k = 32 - k
+μ-loop xs₀ words room k₀ xs k = 32 - k
+
+smaller-requires : tie.Need-smaller-requires Inv-loop μ-loop
+smaller-requires c κs = search needs
 
 loop-holds : tie.Need-loop-holds Inv-loop μ-loop
 unfolding over
-loop-holds c = (omega arith, refl)
+loop-holds c = (omega arith, (refl, refl))
 
-add-put : tie.Need-add-put Inv-loop μ-loop
-add-put c = search needs
+add-loop : tie.Need-add-loop Inv-loop μ-loop
+add-loop c = search needs
 
-mul-put : tie.Need-mul-put Inv-loop μ-loop
-mul-put c = search needs
+mul-xs : tie.Need-mul-xs Inv-loop μ-loop
+mul-xs c = search needs
 
-array-read-put : tie.Need-array-read-put Inv-loop μ-loop
-array-read-put c = search needs
+array-read-xs : tie.Need-array-read-xs Inv-loop μ-loop
+array-read-xs c = search needs
 
-put-requires : tie.Need-put-requires Inv-loop μ-loop
-put-requires c κs = search needs
+add-xs : tie.Need-add-xs Inv-loop μ-loop
+add-xs c = search needs
+
+mul-xs-2 : tie.Need-mul-xs-2 Inv-loop μ-loop
+mul-xs-2 c = search needs
+
+slice-write-xs : tie.Need-slice-write-xs Inv-loop μ-loop
+slice-write-xs c = search needs
 
 add-k : tie.Need-add-k Inv-loop μ-loop
 add-k c = search needs
@@ -37,13 +47,15 @@ loop-less : tie.Need-loop-less Inv-loop μ-loop
 loop-less c = search needs
 
 loop-again : tie.Need-loop-again Inv-loop μ-loop
-loop-again c = (omega arith, rw over-more (cc))
+loop-again c = (omega arith, (search needs, rw over-more (cc)))
 
 same-length : tie.Need-same-length Inv-loop μ-loop
-same-length c = rw (c .before .loop .inv .1, length-over)
+same-length c = search needs
 
 returns : tie.Need-returns Inv-loop μ-loop
-returns c = let e : c .before .loop .k ≡ 32 = omega arith in rw e at (c .before .loop .inv .1)
+returns c =
+    let a = c .before .before .before .before .args in
+    c .before .loop .inv .1 .1 ∙ over-whole (a .xs .now) (a .t2) 4 (c .before .loop .k) 32 (omega arith) (omega arith)
 
 pub put-words-spec : {M : Type 1} → statement M
 put-words-spec =
@@ -51,11 +63,14 @@ put-words-spec =
     (tie.spec
     Inv-loop
     μ-loop
+    smaller-requires
     loop-holds
-    add-put
-    mul-put
-    array-read-put
-    put-requires
+    add-loop
+    mul-xs
+    array-read-xs
+    add-xs
+    mul-xs-2
+    slice-write-xs
     add-k
     loop-less
     loop-again

@@ -7,38 +7,38 @@ use Rattle.boundary.proofs.plain.settings_from.Tie as tie
 word-at-requires : tie.Need-word-at-requires
 word-at-requires c κs = search needs
 
-area-from-requires : tie.Need-area-from-requires
-area-from-requires c κs = search needs
-
 word-at-requires-2 : tie.Need-word-at-requires-2
 word-at-requires-2 c κs = search needs
 
 word-at-requires-3 : tie.Need-word-at-requires-3
 word-at-requires-3 c κs = search needs
 
-yes-at-requires : tie.Need-yes-at-requires
-yes-at-requires c κs = search needs
+word-at-requires-4 : tie.Need-word-at-requires-4
+word-at-requires-4 c κs = search needs
 
-yes-at-requires-2 : tie.Need-yes-at-requires-2
-yes-at-requires-2 c κs = search needs
+word-at-requires-5 : tie.Need-word-at-requires-5
+word-at-requires-5 c κs = search needs
 
-yes-at-requires-3 : tie.Need-yes-at-requires-3
-yes-at-requires-3 c κs = search needs
+word-at-requires-6 : tie.Need-word-at-requires-6
+word-at-requires-6 c κs = search needs
 
-yes-at-requires-4 : tie.Need-yes-at-requires-4
-yes-at-requires-4 c κs = search needs
+word-at-requires-7 : tie.Need-word-at-requires-7
+word-at-requires-7 c κs = search needs
 
-yes-at-requires-5 : tie.Need-yes-at-requires-5
-yes-at-requires-5 c κs = search needs
+word-at-requires-8 : tie.Need-word-at-requires-8
+word-at-requires-8 c κs = search needs
 
-yes-at-requires-6 : tie.Need-yes-at-requires-6
-yes-at-requires-6 c κs = search needs
+word-at-requires-9 : tie.Need-word-at-requires-9
+word-at-requires-9 c κs = search needs
 
-yes-at-requires-7 : tie.Need-yes-at-requires-7
-yes-at-requires-7 c κs = search needs
+word-at-requires-10 : tie.Need-word-at-requires-10
+word-at-requires-10 c κs = search needs
 
-yes-at-requires-8 : tie.Need-yes-at-requires-8
-yes-at-requires-8 c κs = search needs
+area-from-requires : tie.Need-area-from-requires
+area-from-requires c κs = search needs
+
+word-at-requires-11 : tie.Need-word-at-requires-11
+word-at-requires-11 c κs = search needs
 
 returns : tie.Need-returns
 unfolding settingsFrom
@@ -49,15 +49,15 @@ settings-from-spec =
     tie.close
     (tie.spec
     word-at-requires
-    area-from-requires
     word-at-requires-2
     word-at-requires-3
-    yes-at-requires
-    yes-at-requires-2
-    yes-at-requires-3
-    yes-at-requires-4
-    yes-at-requires-5
-    yes-at-requires-6
-    yes-at-requires-7
-    yes-at-requires-8
+    word-at-requires-4
+    word-at-requires-5
+    word-at-requires-6
+    word-at-requires-7
+    word-at-requires-8
+    word-at-requires-9
+    word-at-requires-10
+    area-from-requires
+    word-at-requires-11
     returns)

@@ -7,17 +7,17 @@ use Rattle.boundary.proofs.plain.value_from.Tie as tie
 words-from-requires : tie.Need-words-from-requires
 words-from-requires c κs = search needs
 
-word-at-requires : tie.Need-word-at-requires
-word-at-requires c κs = search needs
-
-word-at-requires-2 : tie.Need-word-at-requires-2
-word-at-requires-2 c κs = search needs
-
 capped-at-requires : tie.Need-capped-at-requires
 capped-at-requires c κs = search needs
 
 capped-at-requires-2 : tie.Need-capped-at-requires-2
 capped-at-requires-2 c κs = search needs
+
+word-at-requires : tie.Need-word-at-requires
+word-at-requires c κs = search needs
+
+word-at-requires-2 : tie.Need-word-at-requires-2
+word-at-requires-2 c κs = search needs
 
 returns : tie.Need-returns
 unfolding valueFrom
@@ -28,8 +28,8 @@ value-from-spec =
     tie.close
     (tie.spec
     words-from-requires
-    word-at-requires
-    word-at-requires-2
     capped-at-requires
     capped-at-requires-2
+    word-at-requires
+    word-at-requires-2
     returns)

@@ -1,32 +1,42 @@
 -- `words_from` meets its contract. The loop's invariant: the first `k` words are filled in.
 use borrow.Author.Needs.{needs}
-use Prim.Native.Nat.{_≤_, _-_, _+_}
 use native.Mathlib.Omega.{arith}
-use mathlib.Core.Path.{_≡_, refl}
+use Prim.Native.Nat.{_≤_, _-_, _+_}
+use mathlib.Core.Path.{_≡_, refl, _∙_}
 use lib.ListN.{getD, replicate}
 use Rattle.layout.specs.Layout.{fill}
 use Rattle.layout.proofs.Turns.{fill-more}
+use Rattle.boundary.proofs.Filled.{fill-whole}
 use Rattle.boundary.proofs.plain.words_from.Statement.{statement}
 use Rattle.boundary.proofs.plain.words_from.Tie as tie
 
 abbrev Inv-loop : tie.InvT-loop
-Inv-loop xs words₀ k₀ words k = (k ≤ 32) × (words ≡ fill (λ j. getD xs (4 + j) 0) (replicate 32 0) k)
+Inv-loop xs words₀ there k₀ words k = (k ≤ 32) × (words ≡ fill (λ j. getD xs (4 + j) 0) (replicate 32 0) k)
 
 abbrev μ-loop : tie.MeasureT-loop
-μ-loop xs words₀ k₀ words k = 32 - k
+μ-loop xs words₀ there k₀ words k = 32 - k
+
+smaller-requires : tie.Need-smaller-requires Inv-loop μ-loop
+smaller-requires c κs = search needs
 
 loop-holds : tie.Need-loop-holds Inv-loop μ-loop
 unfolding fill
 loop-holds c = (omega arith, refl)
 
-add-word-at : tie.Need-add-word-at Inv-loop μ-loop
-add-word-at c = search needs
+add-loop : tie.Need-add-loop Inv-loop μ-loop
+add-loop c = search needs
 
-word-at-requires : tie.Need-word-at-requires Inv-loop μ-loop
-word-at-requires c κs = search needs
+add-words : tie.Need-add-words Inv-loop μ-loop
+add-words c = search needs
 
 mul-words : tie.Need-mul-words Inv-loop μ-loop
 mul-words c = search needs
+
+shared-slice-read-words : tie.Need-shared-slice-read-words Inv-loop μ-loop
+shared-slice-read-words c = search needs
+
+mul-words-2 : tie.Need-mul-words-2 Inv-loop μ-loop
+mul-words-2 c = search needs
 
 array-write-words : tie.Need-array-write-words Inv-loop μ-loop
 array-write-words c = search needs
@@ -41,7 +51,9 @@ loop-again : tie.Need-loop-again Inv-loop μ-loop
 loop-again c = (omega arith, rw fill-more (cc))
 
 returns : tie.Need-returns Inv-loop μ-loop
-returns c = let e : c .before .loop .k ≡ 32 = omega arith in rw e at (c .before .loop .inv .1)
+returns c =
+    c .before .loop .inv .1
+    ∙ fill-whole (c .before .before .before .before .args .xs .now) (c .before .loop .k) (omega arith) (omega arith)
 
 pub words-from-spec : {M : Type 1} → statement M
 words-from-spec =
@@ -49,10 +61,13 @@ words-from-spec =
     (tie.spec
     Inv-loop
     μ-loop
+    smaller-requires
     loop-holds
-    add-word-at
-    word-at-requires
+    add-loop
+    add-words
     mul-words
+    shared-slice-read-words
+    mul-words-2
     array-write-words
     add-k
     loop-less
