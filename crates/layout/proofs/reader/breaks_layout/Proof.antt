@@ -24,7 +24,17 @@ no-requires c κs = search needs
 
 returns : tie.Need-returns
 unfolding breaksLayout
-returns c = cc
+returns c =
+    let k = c .before .before .before in
+    rw (
+      c .no .ensures,
+      c .before .both2 .ensures,
+      c .before .before .keeps-layout .ensures,
+      k .both .ensures,
+      k .before .are-zero2 .ensures,
+      k .before .before .are-zero .ensures,
+      k .before .before .before .before .pre .1,
+    )
 
 pub breaks-layout-spec : {M : Type 1} → statement M
 breaks-layout-spec =

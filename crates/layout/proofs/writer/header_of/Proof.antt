@@ -1,4 +1,5 @@
 -- `header_of` meets its contract: the same six stores into eighty zero bytes.
+use mathlib.Core.Path.{refl}
 use borrow.Author.Needs.{needs}
 use Rattle.layout.specs.Writing.{headerOf}
 use Rattle.layout.proofs.writer.header_of.Statement.{statement}
@@ -36,7 +37,7 @@ array-write-bytes-6 c = search needs
 
 returns : tie.Need-returns
 unfolding headerOf
-returns c = cc
+returns c = refl
 
 pub header-of-spec : {M : Type 1} → statement M
 header-of-spec =

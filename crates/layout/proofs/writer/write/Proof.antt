@@ -1,7 +1,5 @@
 -- `write` meets its contract: each way out is a case of the writer.
-use mathlib.Core.Path.{_≡_}
-use mathlib.Core.Bool.{true, false}
-use Rattle.records.specs.Value.{keepsLayout}
+use mathlib.Core.Path.{_∙_, sym}
 use Rattle.layout.proofs.Cases.{write-layout, write-good}
 use borrow.Author.Needs.{needs}
 use Rattle.layout.specs.Writing.{bytesOf}
@@ -20,13 +18,12 @@ put-words-requires c κs = search needs
 returns : tie.Need-returns
 unfolding bytesOf
 returns c =
-    let b : keepsLayout (c .before .before .before .before .before .args .v) ≡ true = cc in
-    cc (write-good _ b)
+    let k = c .before .before .before in
+    let b = sym (k .before .keeps-layout .ensures) ∙ k .if1 .taken in
+    rw (c .put-words .ensures, c .before .header-of .ensures) (sym (write-good _ b))
 
 returns-2 : tie.Need-returns-2
-returns-2 c =
-    let b : keepsLayout (c .before .before .args .v) ≡ false = cc in
-    cc (write-layout _ b)
+returns-2 c = sym (write-layout _ (sym (c .before .keeps-layout .ensures) ∙ c .if1 .left))
 
 pub write-spec : {M : Type 1} → statement M
 write-spec =
