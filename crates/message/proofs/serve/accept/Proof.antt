@@ -24,7 +24,13 @@ same-length-2 : tie.Need-same-length-2
 same-length-2 c = search needs
 
 returns : tie.Need-returns
-returns c = (cc, (cc, cc))
+returns c =
+    let carried = c .before .before .before in
+    let sent = carried .before .before .before .before in
+    let e = sent .before .before .before .before .plan-of .ensures in (
+      rw (c .accepted-outcome .ensures, e),
+      (rw (carried .carry-out .ensures, e), rw (sent .send .ensures, e)),
+    )
 
 pub accept-spec : {M : Type 1} → statement M
 accept-spec =

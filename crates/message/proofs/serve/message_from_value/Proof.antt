@@ -35,7 +35,8 @@ returns-2 c =
     let t = c .before .before .before .before in
     let a = t .before .before .before .before .args in
     let passed = sym (t .before .early-refusal .ensures) ∙ t .if1 .left in
-    let broken : not (keepsLayout (a .v)) ≡ true = cc in
+    let broken : not (keepsLayout (a .v)) ≡ true =
+    rw (← (c .before .before .before .keeps-layout .ensures), ← (c .before .before .no .ensures)) (c .before .if2 .taken) in
     let u = value-layout (a .ram .now) (a .reply .now) (a .s) (a .before) (a .v) passed broken in
     (c .refused-outcome2 .ensures ∙ sym (u .outcome), (sym (u .words), sym (u .buffer)))
 
@@ -53,7 +54,9 @@ returns-3 c =
     let t = c .before .before .before .before .before .before .before .before .before .before in
     let a = t .before .before .before .before .args in
     let passed = sym (t .before .early-refusal .ensures) ∙ t .if1 .left in
-    let kept : not (keepsLayout (a .v)) ≡ false = cc in
+    let n = c .before .before .before .before .before .before .before in
+    let kept : not (keepsLayout (a .v)) ≡ false =
+    rw (← (n .before .before .keeps-layout .ensures), ← (n .before .no .ensures)) (n .if2 .left) in
     let k = c .before .before .before .before .serve .ensures in (
       k .0 ∙ outcome-late (a .ram .now) (a .reply .now) (a .s) (a .before) (a .v) passed kept,
       (

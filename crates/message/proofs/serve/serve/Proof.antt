@@ -31,7 +31,7 @@ unfolding outcomeFor ramFor replyFor
 returns-2 c =
     let e = c .before .before .late-refusal .ensures in
     let n = ne-eqb _ _ (c .before .if2 .taken) in
-    (simp (← e, n) (cc), (simp (← e, n), simp (← e, n)))
+    (rw (← e, n) (c .refused-outcome2 .ensures), (rw (← e, n), rw (← e, n)))
 
 accept-requires : tie.Need-accept-requires
 accept-requires c κs =
@@ -47,9 +47,11 @@ same-length-3 c = search needs
 returns-3 : tie.Need-returns-3
 unfolding outcomeFor ramFor replyFor
 returns-3 c =
-    let e = c .before .before .before .before .before .before .before .before .late-refusal .ensures in
-    let n = eq-eqb _ _ (c .before .before .before .before .before .before .before .if2 .left) in
-    (simp (← e, n) (cc), (simp (← e, n) (cc), simp (← e, n) (cc)))
+    let k = c .before .before .before .before .accept .ensures in
+    let t = c .before .before .before .before .before .before .before in
+    let e = t .before .late-refusal .ensures in
+    let n = eq-eqb _ _ (t .if2 .left) in
+    (rw (← e, n) (k .0), (rw (← e, n) (k .1 .0), rw (← e, n) (k .1 .1)))
 
 pub serve-spec : {M : Type 1} → statement M
 serve-spec =
