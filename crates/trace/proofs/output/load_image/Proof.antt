@@ -41,7 +41,9 @@ loop-less : tie.Need-loop-less Inv-loop μ-loop
 loop-less c = search needs
 
 loop-again : tie.Need-loop-again Inv-loop μ-loop
-loop-again c = (omega arith, (rw fill-more (cc), simp length-set (cc)))
+loop-again c =
+    let l = c .before .before .loop .inv .1 in
+    (omega arith, (rw (fill-more, c .image-word .ensures, l .0), rw length-set (l .1)))
 
 same-length : tie.Need-same-length Inv-loop μ-loop
 same-length c = search needs

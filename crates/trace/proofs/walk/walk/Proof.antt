@@ -1,7 +1,7 @@
 -- `walk` meets its contract. The loop's invariant: the walk stands after `i` records.
 use Prim.Native.Nat.{_≤_, _+_, _-_, _*_, _/_}
 use native.Mathlib.Omega.{arith}
-use mathlib.Core.Path.{_≡_, refl}
+use mathlib.Core.Path.{_≡_, refl, _∙_}
 use lib.ListN.{length}
 use denote.Ref.{now}
 use borrow.Author.Needs.{needs}
@@ -49,9 +49,17 @@ loop-less c = search needs
 
 loop-again : tie.Need-loop-again Inv-loop μ-loop
 loop-again c =
-    let l = c .before .before .before .before .before .before .before .before .before .before .before .before .loop in
+    let replied = c .before .before .before in
+    let stored = replied .before .before in
+    let l = stored .before .before .before .before .before .before .before .loop in
     let e : 80 * l .i + 80 - 80 * l .i ≡ 80 = omega arith in
-    (omega arith, (stands-more _ _ _ _ (l .inv .1 .0) (rw e at (c .before .before .before .before .before .before .walk-one .ensures)), (cc, (cc, cc))))
+    let n = l .inv .1 .1 in (
+      omega arith,
+      (
+        stands-more _ _ _ _ (l .inv .1 .0) (rw e at (stored .before .walk-one .ensures)),
+        (stored .ram .given ∙ n .0, (replied .reply .given ∙ n .1 .0, c .before .out .given ∙ n .1 .1)),
+      ),
+    )
 
 same-length : tie.Need-same-length Inv-loop μ-loop
 same-length c = search needs

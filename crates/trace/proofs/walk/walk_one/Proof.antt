@@ -25,7 +25,11 @@ same-length-3 c = search needs
 
 returns : tie.Need-returns
 unfolding walkRecord stepBytes
-returns c = record { memory = cc; answer = cc; line = cc; back = cc }
+returns c =
+    let p = c .before .before .put-line .ensures in
+    let n = c .before .before .before .before .wrapping-add-u64 .ensures in
+    let m = c .before .before .before .before .before .before .before .before .before .before .before .message-from-bytes .ensures in
+    record { memory = m .1 .0; answer = m .1 .1; line = rw (p .bytes, n, m .0); back = rw (p .place, n, m .0) }
 
 pub walk-one-spec : {M : Type 1} → statement M
 walk-one-spec =
