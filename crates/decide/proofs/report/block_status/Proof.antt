@@ -78,7 +78,19 @@ add-result-8 c = search needs
 
 returns : tie.Need-returns
 unfolding blockStatus
-returns c = cc
+returns c =
+    let k = c .before .before .before .before in
+    rw (
+      c .bit-of8 .ensures .0,
+      c .before .bit-of7 .ensures .0,
+      c .before .before .bit-of6 .ensures .0,
+      c .before .before .before .bit-of5 .ensures .0,
+      k .bit-of4 .ensures .0,
+      k .before .bit-of3 .ensures .0,
+      k .before .before .bit-of2 .ensures .0,
+      k .before .before .before .any-fault .ensures,
+      k .before .before .before .before .bit-of .ensures .0,
+    )
 
 pub block-status-spec : {M : Type 1} → statement M
 block-status-spec =

@@ -57,7 +57,17 @@ add-result-5 c = search needs
 
 returns : tie.Need-returns
 unfolding interruptWord
-returns c = cc
+returns c =
+    let k = c .before .before .before in
+    rw (
+      c .bit-of5 .ensures .0,
+      c .before .bit-of4 .ensures .0,
+      c .before .before .no .ensures,
+      k .bit-of3 .ensures .0,
+      k .before .bit-of2 .ensures .0,
+      k .before .before .both .ensures,
+      k .before .before .before .bit-of .ensures .0,
+    )
 
 pub interrupt-word-spec : {M : Type 1} → statement M
 interrupt-word-spec =

@@ -66,7 +66,18 @@ add-result-6 c = search needs
 
 returns : tie.Need-returns
 unfolding statusWord
-returns c = cc
+returns c =
+    let k = c .before .before .before .before in
+    rw (
+      c .bit-of6 .ensures .0,
+      c .before .bit-of5 .ensures .0,
+      c .before .before .bit-of4 .ensures .0,
+      c .before .before .before .bit-of3 .ensures .0,
+      k .bit-of2 .ensures .0,
+      k .before .bit-of .ensures .0,
+      k .before .before .either .ensures,
+      k .before .before .before .no .ensures,
+    )
 
 pub status-word-spec : {M : Type 1} → statement M
 status-word-spec =
