@@ -36,9 +36,9 @@ loop-less c = search needs
 
 loop-again : tie.Need-loop-again Inv-loop μ-loop
 loop-again c =
-    let h : c .before .before .before .before .before .before .loop .i < length (now (c .before .before .before .before .before .before .before .before .before .args .s)) =
-    c .before .before .before .before .before .loop-test .taken in
-    (omega arith, rw sets-more (cc))
+    let t = c .before .before .before .before .before in
+    let h : t .before .loop .i < length (now (t .before .before .before .before .args .s)) = t .loop-test .taken in
+    (omega arith, rw (sets-more, c .before .before .put-byte .ensures, t .before .loop .inv .1))
 
 add-result : tie.Need-add-result Inv-loop μ-loop
 add-result c = search needs

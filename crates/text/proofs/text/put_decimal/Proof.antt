@@ -21,7 +21,11 @@ same-length c = search needs
 returns : tie.Need-returns
 unfolding decimalText
 returns c =
-    (record { bytes = cc; place = rw length-digits (cc) }, omega (arith, places-most 19 (c .before .before .before .before .before .before .args .n)))
+    let k = c .before .before .before .before in
+    let e = k .places .ensures in (
+      record { bytes = rw (c .before .before .put-digits .ensures, e); place = rw (length-digits, e) },
+      omega (arith, places-most 19 (k .before .before .args .n)),
+    )
 
 pub put-decimal-spec : {M : Type 1} → statement M
 put-decimal-spec =

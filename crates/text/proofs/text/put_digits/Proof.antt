@@ -1,7 +1,7 @@
 -- `put_digits` meets its contract. The loop's invariant: with the `i` digits that are left, all would stand in the buffer.
 use Prim.Native.Nat.{_≤_, _-_}
 use native.Mathlib.Omega.{arith}
-use mathlib.Core.Path.{_≡_, refl}
+use mathlib.Core.Path.{_≡_, refl, _∙_}
 use lib.ListN.{length}
 use lib.Seq.{sets}
 use borrow.Author.Needs.{needs}
@@ -38,7 +38,15 @@ loop-less : tie.Need-loop-less Inv-loop μ-loop
 loop-less c = search needs
 
 loop-again : tie.Need-loop-again Inv-loop μ-loop
-loop-again c = (omega arith, (search digits-again, cc))
+loop-again c =
+    let t = c .before .before .before .before in
+    let l = t .before .loop in (
+      omega arith,
+      (
+        digits-again _ _ _ _ _ _ (t .loop-test .taken) (c .before .before .put-byte .ensures) (l .inv .1 .0),
+        c .before .out .given ∙ l .inv .1 .1,
+      ),
+    )
 
 same-length : tie.Need-same-length Inv-loop μ-loop
 same-length c = search needs

@@ -44,7 +44,25 @@ same-length : tie.Need-same-length
 same-length c = search needs
 
 returns : tie.Need-returns
-returns c = record { bytes = rw sets-hex (cc); place = rw length-hex }
+returns c =
+    let fourth = c .before .before in
+    let third = fourth .before .before .before .before .before in
+    let second = third .before .before .before .before .before in
+    let first = second .before .before .before .before .before in
+    record {
+      bytes = rw (
+        sets-hex,
+        fourth .put-byte4 .ensures,
+        fourth .before .hex-digit4 .ensures,
+        third .put-byte3 .ensures,
+        third .before .hex-digit3 .ensures,
+        second .put-byte2 .ensures,
+        second .before .hex-digit2 .ensures,
+        first .put-byte .ensures,
+        first .before .hex-digit .ensures,
+      );
+      place = rw length-hex;
+    }
 
 pub put-hex-spec : {M : Type 1} → statement M
 put-hex-spec =
