@@ -1,6 +1,6 @@
 -- Walking a trace in parts: first a whole number of records, then the rest.
 use Prim.Native.Nat.{ℕ, zero, suc, _+_, _-_, _*_, _/_, _%_, _≤_}
-use native.Mathlib.Nat.{add-zero, add-suc}
+use native.Mathlib.Nat.{add-zero, add-suc, mul-add-div}
 use native.Mathlib.Omega.{arith}
 use mathlib.Core.Path.{_≡_, refl, ap, sym, _∙_}
 use mathlib.Core.List.{List, [], _++_, append-nil, append-assoc}
@@ -45,7 +45,8 @@ pub walk-append :
 unfolding walkAll
 walk-append s xs ys w h =
     let e : length xs ≡ 80 * (length xs / 80) = omega arith in
-    let c : (length xs + length ys) / 80 ≡ length xs / 80 + length ys / 80 = omega arith in
+    let c : (length xs + length ys) / 80 ≡ length xs / 80 + length ys / 80 =
+    ap (λ (k : ℕ). (k + length ys) / 80) e ∙ mul-add-div (omega arith) (length xs / 80) (length ys) in
     rw (length-append, c) (walk-both s xs ys w (length xs / 80) (length ys / 80) e)
 
 -- the text so far only stands in front
