@@ -23,7 +23,17 @@ same-length : tie.Need-same-length
 same-length c = search needs
 
 returns : tie.Need-returns
-returns c = search plan-carried
+returns c =
+    let last = c .before .before in
+    let entered = last .before .before .before .before .before in
+    let moved = entered .before .before .before .before in
+    let stored = moved .before .before .before .before in
+    plan-carried _ _ _ _ _ _ _ _ _
+    (stored .store-words .ensures)
+    (moved .move-pointer .ensures)
+    (entered .put-entry .ensures)
+    (last .before .stack-pointer-place .ensures)
+    (last .put .ensures)
 
 pub carry-out-spec : {M : Type 1} → statement M
 carry-out-spec =

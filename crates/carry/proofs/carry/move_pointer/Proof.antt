@@ -22,10 +22,13 @@ same-length : tie.Need-same-length
 same-length c = search needs
 
 returns : tie.Need-returns
-returns c = search pointer-moved
+returns c =
+    let p = c .before .before in
+    let k = p .before .before in
+    pointer-moved _ _ _ _ _ (k .before .before .if1 .taken) (k .lookup-table .ensures) (p .put .ensures)
 
 returns-2 : tie.Need-returns-2
-returns-2 c = search pointer-kept
+returns-2 c = pointer-kept _ _ _ (c .if1 .left)
 
 pub move-pointer-spec : {M : Type 1} → statement M
 move-pointer-spec =

@@ -40,7 +40,10 @@ loop-less : tie.Need-loop-less Inv-loop μ-loop
 loop-less c = search needs
 
 loop-again : tie.Need-loop-again Inv-loop μ-loop
-loop-again c = (omega arith, rw apply-more (cc))
+loop-again c =
+    let p = c .before .before in
+    let l = p .before .before .before .before .loop in
+    (omega arith, rw (apply-more, p .put .ensures, p .before .place .ensures, l .inv .1))
 
 same-length : tie.Need-same-length Inv-loop μ-loop
 same-length c = rw (c .before .loop .inv .1, length-apply)

@@ -14,10 +14,12 @@ same-length : tie.Need-same-length
 same-length c = search needs
 
 returns : tie.Need-returns
-returns c = search reply-sent
+returns c =
+    let p = c .before .before .before .before .before .before in
+    reply-sent _ _ _ _ _ (p .before .before .before .before .before .if1 .taken) (p .put .ensures) (c .before .before .send-words .ensures)
 
 returns-2 : tie.Need-returns-2
-returns-2 c = search reply-none
+returns-2 c = reply-none _ _ _ (c .if1 .left)
 
 pub send-spec : {M : Type 1} → statement M
 send-spec = tie.close (tie.spec put-requires send-words-requires same-length returns returns-2)
