@@ -36,7 +36,13 @@ add-result-3 c = search needs
 
 returns : tie.Need-returns
 unfolding busyPlace
-returns c = cc
+returns c =
+    rw (
+      c .one-if2 .ensures .0,
+      c .before .transmit .ensures,
+      c .before .before .one-if .ensures .0,
+      c .before .before .before .subaddress .ensures,
+    )
 
 pub busy-place-spec : {M : Type 1} → statement M
 busy-place-spec =

@@ -48,7 +48,14 @@ add-result-4 c = search needs
 
 returns : tie.Need-returns
 unfolding illegalPlace
-returns c = cc
+returns c =
+    rw (
+      c .one-if2 .ensures .0,
+      c .before .transmit .ensures,
+      c .before .before .one-if .ensures .0,
+      c .before .before .before .count-field .ensures,
+      c .before .before .before .before .subaddress .ensures,
+    )
 
 pub illegal-place-spec : {M : Type 1} → statement M
 illegal-place-spec =

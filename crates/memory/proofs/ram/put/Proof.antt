@@ -1,4 +1,5 @@
 -- `put` meets its contract: a place past the end takes no word.
+use mathlib.Core.Path.{sym}
 use borrow.Author.Needs.{needs}
 use Prim.Native.Nat.{_≤_}
 use native.Mathlib.Omega.{arith}
@@ -22,7 +23,7 @@ returns c = search needs
 returns-2 : tie.Need-returns-2
 returns-2 c =
     let h : length (c .before .args .ram .now) ≤ c .before .args .at = omega arith in
-    cc (set-out (c .before .args .ram .now) (c .before .args .at) (c .before .args .word) h)
+    sym (set-out (c .before .args .ram .now) (c .before .args .at) (c .before .args .word) h)
 
 pub put-spec : {M : Type 1} → statement M
 put-spec = tie.close (tie.spec mul-ram slice-write-ram same-length returns returns-2)

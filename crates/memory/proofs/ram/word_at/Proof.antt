@@ -1,4 +1,5 @@
 -- `word_at` meets its contract: a place past the end reads 0.
+use mathlib.Core.Path.{sym}
 use borrow.Author.Needs.{needs}
 use lib.ListN.{List·getD-eq-default}
 use Rattle.memory.proofs.ram.word_at.Statement.{statement}
@@ -14,7 +15,7 @@ returns : tie.Need-returns
 returns c = search needs
 
 returns-2 : tie.Need-returns-2
-returns-2 c = cc (List·getD-eq-default (c .before .args .ram .now) 0 (c .if1 .left))
+returns-2 c = sym (List·getD-eq-default (c .before .args .ram .now) 0 (c .if1 .left))
 
 pub word-at-spec : {M : Type 1} → statement M
 word-at-spec = tie.close (tie.spec mul-result shared-slice-read-result returns returns-2)
