@@ -21,15 +21,15 @@ either-requires c κs = search needs
 
 returns : tie.Need-returns
 unfolding mayMove
-returns c = cc
+returns c = rw (c .enum-told .given .1)
 
 returns-2 : tie.Need-returns-2
 unfolding mayMove
-returns-2 c = cc
+returns-2 c = rw (c .enum-told2 .given .1)
 
 returns-3 : tie.Need-returns-3
 unfolding mayMove
-returns-3 c = cc
+returns-3 c = rw (c .either .ensures, c .before .no .ensures, c .before .before .enum-told3 .given .1)
 
 pub may-move-spec : {M : Type 1} → statement M
 may-move-spec =
