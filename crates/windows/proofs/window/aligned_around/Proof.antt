@@ -12,7 +12,7 @@ sub-t4 c = search needs
 
 returns : tie.Need-returns
 unfolding aligned
-returns c = cc
+returns c = rw (c .remainder16 .ensures .0)
 
 pub aligned-around-spec : {M : Type 1} → statement M
 aligned-around-spec = tie.close (tie.spec remainder16-requires sub-t4 returns)

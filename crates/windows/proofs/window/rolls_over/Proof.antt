@@ -1,4 +1,5 @@
 -- `rolls_over` meets its contract: the same test.
+use mathlib.Core.Path.{refl}
 use borrow.Author.Needs.{needs}
 use Rattle.windows.specs.Window.{rollsOver}
 use Rattle.windows.proofs.window.rolls_over.Statement.{statement}
@@ -15,7 +16,7 @@ add-result c = search needs
 
 returns : tie.Need-returns
 unfolding rollsOver
-returns c = cc
+returns c = refl
 
 pub rolls-over-spec : {M : Type 1} → statement M
 rolls-over-spec = tie.close (tie.spec cast-result cast-result-2 add-result returns)
