@@ -15,15 +15,15 @@ enum-told-3 c = search needs
 
 returns : tie.Need-returns
 unfolding controlPart
-returns c = cc
+returns c = rw (c .enum-told .given .1)
 
 returns-2 : tie.Need-returns-2
 unfolding controlPart
-returns-2 c = cc
+returns-2 c = rw (c .enum-told2 .given .1)
 
 returns-3 : tie.Need-returns-3
 unfolding controlPart
-returns-3 c = cc
+returns-3 c = rw (c .enum-told3 .given .1)
 
 pub control-part-spec : {M : Type 1} → statement M
 control-part-spec =

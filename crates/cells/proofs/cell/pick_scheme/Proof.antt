@@ -18,7 +18,7 @@ size-of-requires c κs = search needs
 
 returns-3 : tie.Need-returns-3
 unfolding pickScheme
-returns-3 c = simp (ne-eqb _ _ (c .before .if1 .left)) (cc)
+returns-3 c = rw (ne-eqb _ _ (c .before .if1 .left), c .size-of .ensures)
 
 pub pick-scheme-spec : {M : Type 1} → statement M
 pick-scheme-spec = tie.close (tie.spec returns returns-2 size-of-requires returns-3)

@@ -24,15 +24,15 @@ aligned-around-requires-2 c κs = search needs
 
 returns : tie.Need-returns
 unfolding windowOf
-returns c = cc
+returns c = rw (c .before .enum-told .given .1) (c .run-from .ensures)
 
 returns-2 : tie.Need-returns-2
 unfolding windowOf
-returns-2 c = cc
+returns-2 c = rw (c .before .enum-told2 .given .1) (c .aligned-around .ensures)
 
 returns-3 : tie.Need-returns-3
 unfolding windowOf
-returns-3 c = cc
+returns-3 c = rw (c .before .before .scheme .given .1) (c .aligned-around2 .ensures)
 
 pub window-of-spec : {M : Type 1} → statement M
 window-of-spec =
