@@ -32,14 +32,19 @@ add-t5 c =
 
 returns : tie.Need-returns
 returns c =
-    let a = c .before .before .before .before .before .args in rw (taken-some (now (a .trace)) (a .at) (there (now (a .trace)) (a .at) _ (c .before .before .before .has-record .ensures) (c .before .before .if1 .taken))) (cc)
+    let k = c .before .before in
+    let a = k .before .before .before .args in
+    let h = there (now (a .trace)) (a .at) _ (k .before .has-record .ensures) (k .if1 .taken) in
+    rw (taken-some (now (a .trace)) (a .at) h, c .read .ensures)
 
 none-at-requires : tie.Need-none-at-requires
 none-at-requires c κs = search needs
 
 returns-2 : tie.Need-returns-2
 returns-2 c =
-    let a = c .before .before .before .before .args in rw (taken-none (now (a .trace)) (a .at) (not-there (now (a .trace)) (a .at) _ (c .before .before .has-record .ensures) (c .before .if1 .left))) (cc)
+    let a = c .before .before .before .before .args in
+    let h = not-there (now (a .trace)) (a .at) _ (c .before .before .has-record .ensures) (c .before .if1 .left) in
+    rw (taken-none (now (a .trace)) (a .at) h) (c .none-at .ensures)
 
 pub take-at-spec : {M : Type 1} → statement M
 take-at-spec =
