@@ -2,7 +2,6 @@
 ghost use mathlib.Core.Path.{_≡_};
 ghost use Rattle.records.specs.Value.{zeroValue, keepsLayout, onBusB, hasWrongSync, hasInvalidWord, lastsZero};
 use words::choose::both;
-use words::choose::either;
 
 // A message record as a value. It can hold what breaks the layout, since the writer refuses such a value.
 pub struct Record {
@@ -48,9 +47,9 @@ fn lasts_zero(words: [u16; 32], count: u8) -> bool
     ensures { λ r. ⌜ r ≡ lastsZero words count 32 ⌝ }
 {
     let mut ok = true;
-    let mut i: usize = 0;
+    let mut i: usize = count as usize;
     while i < 32 {
-        ok = both(ok, either(i < count as usize, words[i] == 0));
+        ok = both(ok, words[i] == 0);
         i += 1;
     }
     ok
