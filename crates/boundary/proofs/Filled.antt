@@ -1,23 +1,16 @@
 -- Words filled in from a slice that may end early: past its end there is nothing to fill in.
-use Prim.Native.Nat.{ℕ, zero, suc, _+_, _-_, _≤_, _<_, min}
+use Prim.Native.Nat.{ℕ, zero, suc, _+_, _-_, _≤_, min}
 use native.Mathlib.Nat.{add-zero, add-suc}
 use native.Mathlib.Omega.{arith}
-use mathlib.Core.Path.{_≡_, refl, sym, _∙_}
+use mathlib.Core.Path.{_≡_, sym, _∙_}
 use mathlib.Core.Logic.{⊎-elim}
 use mathlib.Core.List.{List}
 use lib.ListN.{length, getD, set, getD-replicate, List·getD-eq-default}
-use lib.Seq.{getD-set-other, set-getD}
+use lib.Seq.{set-getD}
 use Rattle.words.proofs.Basics.{lt-or-ge}
 use Rattle.records.specs.Value.{zeroWords}
 use Rattle.layout.specs.Layout.{fill}
-
--- a place that is not yet filled in
-fill-later : (f : ℕ → ℕ) (xs : List ℕ) (n k : ℕ) → n ≤ k → getD (fill f xs n) k 0 ≡ getD xs k 0
-unfolding fill
-fill-later f xs zero k h = refl
-fill-later f xs (suc n) k h =
-    let p : (k ≡ n → ⊥) = λ e. omega arith in
-    getD-set-other (fill f xs n) n k (f n) 0 p ∙ fill-later f xs n k (omega arith)
+use Rattle.layout.proofs.Copied.{fill-later}
 
 zero-at : (k : ℕ) → getD zeroWords k 0 ≡ 0
 zero-at k =

@@ -1,8 +1,9 @@
 // The record reader: 80 bytes to a value, or refusal 4 or 5.
 ghost use mathlib.Core.Path.{_≡_};
-ghost use Prim.Native.Nat.{_+_, _*_, _≤_};
-ghost use lib.ListN.{length};
-ghost use Rattle.layout.specs.Layout.{wordAt, areZero, wordsIn, valueIn, breaksLayout, readRecord, notRead};
+ghost use Prim.Native.Nat.{_+_, _*_, _/_, _%_, _≤_};
+ghost use lib.ListN.{length, getD};
+ghost use Rattle.layout.specs.Layout.{wordAt, areZero, fill, wordsIn, valueIn, breaksLayout, readRecord, notRead};
+ghost use Rattle.records.specs.Value.{zeroWords};
 use records::value::Record;
 use records::value::keeps_layout;
 use records::value::zero_value;
@@ -42,14 +43,35 @@ fn are_zero(s: &[u8], from: usize, n: usize) -> bool
     ok
 }
 
-fn words_in(s: &[u8]) -> [u16; 32]
+// The words as they would be with the low byte first: for the compiler, a copy of the bytes.
+fn copied_words(s: &[u8]) -> [u16; 32]
     requires { ⌜ length (now s) ≡ 80 ⌝ }
-    ensures { λ r. ⌜ r ≡ wordsIn (now (s .entry)) ⌝ }
+    ensures { λ r. ⌜ r ≡ fill (λ k. getD (now (s .entry)) (16 + 2 * k + 1) 0 * 256 + getD (now (s .entry)) (16 + 2 * k) 0) zeroWords 32 ⌝ }
 {
     let mut words = [0u16; 32];
     let mut i: usize = 0;
     while i < 32 {
-        words[i] = word_at(s, 16 + 2 * i);
+        words[i] = join(s[16 + 2 * i + 1], s[16 + 2 * i]);
+        i += 1;
+    }
+    words
+}
+
+fn exchange_bytes(w: u16) -> u16
+    ensures { λ r. ⌜ r ≡ w % 256 * 256 + w / 256 ⌝ }
+{
+    w % 256 * 256 + w / 256
+}
+
+// Copied first, so that the bytes are exchanged in eight words at a time. Joined from two bytes each, they come one by one.
+fn words_in(s: &[u8]) -> [u16; 32]
+    requires { ⌜ length (now s) ≡ 80 ⌝ }
+    ensures { λ r. ⌜ r ≡ wordsIn (now (s .entry)) ⌝ }
+{
+    let mut words = copied_words(s);
+    let mut i: usize = 0;
+    while i < 32 {
+        words[i] = exchange_bytes(words[i]);
         i += 1;
     }
     words

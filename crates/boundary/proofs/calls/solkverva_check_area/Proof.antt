@@ -24,7 +24,7 @@ add-result c = search needs
 
 returns : tie.Need-returns
 unfolding checkWord
-returns c = cc
+returns c = rw (c .before .before .check-area .ensures, c .before .before .before .settings-from .ensures)
 
 pub solkverva-check-area-spec : {M : Type 1} → statement M
 solkverva-check-area-spec =

@@ -28,7 +28,18 @@ same-length-4 : tie.Need-same-length-4
 same-length-4 c = search needs
 
 returns : tie.Need-returns
-returns c = (cc, (cc, (cc, cc)))
+returns c =
+    let put = c .before .before .before .before in
+    let served = put .before .before .before .before .before .before .before in
+    let said = served .message-from-bytes .ensures in
+    let m = served .before .before .before .remembered-from .ensures in
+    let s = served .before .before .before .before .before .settings-from .ensures in (
+      rw (said .1 .0, s),
+      (
+        rw (said .1 .1, s),
+        (rw (put .put-outcome .ensures .0, said .0, s, m), rw (put .put-outcome .ensures .1, said .0, s, m)),
+      ),
+    )
 
 pub solkverva-message-spec : {M : Type 1} → statement M
 solkverva-message-spec =

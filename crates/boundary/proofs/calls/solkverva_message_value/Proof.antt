@@ -31,7 +31,19 @@ same-length-4 : tie.Need-same-length-4
 same-length-4 c = search needs
 
 returns : tie.Need-returns
-returns c = (cc, (cc, (cc, cc)))
+returns c =
+    let put = c .before .before .before .before in
+    let served = put .before .before .before .before .before .before .before in
+    let said = served .message-from-value .ensures in
+    let v = served .before .before .before .value-from .ensures in
+    let m = served .before .before .before .before .remembered-from .ensures in
+    let s = served .before .before .before .before .before .before .settings-from .ensures in (
+      rw (said .1 .0, s, v),
+      (
+        rw (said .1 .1, s, v),
+        (rw (put .put-outcome .ensures .0, said .0, s, m, v), rw (put .put-outcome .ensures .1, said .0, s, m, v)),
+      ),
+    )
 
 pub solkverva-message-value-spec : {M : Type 1} → statement M
 solkverva-message-value-spec =

@@ -13,7 +13,9 @@ same-length : tie.Need-same-length
 same-length c = search needs
 
 returns : tie.Need-returns
-returns c = (cc, cc)
+returns c =
+    let r = c .before .before .before .before .before .read .ensures in
+    (rw r, rw (c .before .before .put-value .ensures, r))
 
 pub solkverva-read-spec : {M : Type 1} → statement M
 solkverva-read-spec = tie.close (tie.spec read-requires put-value-requires same-length returns)

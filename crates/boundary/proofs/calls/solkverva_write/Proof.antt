@@ -16,7 +16,10 @@ same-length : tie.Need-same-length
 same-length c = search needs
 
 returns : tie.Need-returns
-returns c = (cc, cc)
+returns c =
+    let v = c .before .before .before .before .before .before .value-from .ensures in
+    let w = c .before .before .before .before .before .write .ensures in
+    (rw (w, v), rw (c .before .before .put-bytes .ensures, w, v))
 
 pub solkverva-write-spec : {M : Type 1} → statement M
 solkverva-write-spec =

@@ -22,7 +22,15 @@ same-length c = search needs
 
 returns : tie.Need-returns
 unfolding answerInto answerWords
-returns c = rw (nine-back, bit-of) (cc)
+returns c =
+    rw (
+      nine-back,
+      bit-of,
+      c .before .before .put-four2 .ensures,
+      c .before .before .before .before .before .before .put-four .ensures,
+      c .before .before .before .before .before .before .before .pick .ensures,
+      c .before .before .before .before .before .before .before .before .before .before .before .put .ensures,
+    )
 
 pub put-answer-spec : {M : Type 1} → statement M
 put-answer-spec =

@@ -29,7 +29,14 @@ same-length : tie.Need-same-length
 same-length c = search needs
 
 returns : tie.Need-returns
-returns c = rw four-back (cc)
+returns c =
+    rw (
+      four-back,
+      c .before .before .put4 .ensures,
+      c .before .before .before .before .before .before .put3 .ensures,
+      c .before .before .before .before .before .before .before .before .before .before .put2 .ensures,
+      c .before .before .before .before .before .before .before .before .before .before .before .before .before .before .put .ensures,
+    )
 
 pub put-four-spec : {M : Type 1} → statement M
 put-four-spec =

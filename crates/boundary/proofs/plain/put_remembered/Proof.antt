@@ -16,7 +16,7 @@ same-length c = search needs
 
 returns : tie.Need-returns
 unfolding rememberedInto
-returns c = rw two-back (cc)
+returns c = rw (two-back, c .before .before .put2 .ensures, c .before .before .before .before .before .before .put .ensures)
 
 pub put-remembered-spec : {M : Type 1} → statement M
 put-remembered-spec = tie.close (tie.spec put-requires put-requires-2 same-length returns)

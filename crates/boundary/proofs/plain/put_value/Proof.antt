@@ -21,7 +21,7 @@ same-length c = search needs
 
 returns : tie.Need-returns
 unfolding valueInto
-returns c = cc
+returns c = rw (c .before .before .put-words .ensures, c .before .before .before .before .before .before .put-four .ensures)
 
 pub put-value-spec : {M : Type 1} → statement M
 put-value-spec =

@@ -12,7 +12,7 @@ word-at-requires-2 c κs = search needs
 
 returns : tie.Need-returns
 unfolding rememberedFrom
-returns c = cc
+returns c = rw (c .word-at2 .ensures, c .before .word-at .ensures)
 
 pub remembered-from-spec : {M : Type 1} → statement M
 remembered-from-spec = tie.close (tie.spec word-at-requires word-at-requires-2 returns)

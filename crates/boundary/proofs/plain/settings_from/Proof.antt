@@ -42,7 +42,21 @@ word-at-requires-11 c κs = search needs
 
 returns : tie.Need-returns
 unfolding settingsFrom
-returns c = cc
+returns c =
+    rw (
+      c .word-at11 .ensures,
+      c .before .area-from .ensures,
+      c .before .before .word-at10 .ensures,
+      c .before .before .before .word-at9 .ensures,
+      c .before .before .before .before .word-at8 .ensures,
+      c .before .before .before .before .before .word-at7 .ensures,
+      c .before .before .before .before .before .before .word-at6 .ensures,
+      c .before .before .before .before .before .before .before .word-at5 .ensures,
+      c .before .before .before .before .before .before .before .before .word-at4 .ensures,
+      c .before .before .before .before .before .before .before .before .before .word-at3 .ensures,
+      c .before .before .before .before .before .before .before .before .before .before .word-at2 .ensures,
+      c .before .before .before .before .before .before .before .before .before .before .before .word-at .ensures,
+    )
 
 pub settings-from-spec : {M : Type 1} → statement M
 settings-from-spec =

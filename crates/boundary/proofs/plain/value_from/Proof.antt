@@ -21,7 +21,14 @@ word-at-requires-2 c κs = search needs
 
 returns : tie.Need-returns
 unfolding valueFrom
-returns c = cc
+returns c =
+    rw (
+      c .word-at2 .ensures,
+      c .before .word-at .ensures,
+      c .before .before .capped-at2 .ensures,
+      c .before .before .before .capped-at .ensures,
+      c .before .before .before .before .words-from .ensures,
+    )
 
 pub value-from-spec : {M : Type 1} → statement M
 value-from-spec =

@@ -1,32 +1,35 @@
--- `words_in` meets its contract. The loop's invariant: the first `i` words are filled in.
-use Prim.Native.Nat.{_≤_, _-_, _+_, _*_}
-use mathlib.Core.Path.{_≡_, refl}
-use lib.ListN.{replicate}
-use Rattle.layout.specs.Layout.{wordAt, fill, wordsIn}
-use Rattle.layout.proofs.Turns.{fill-more}
+-- `words_in` meets its contract. The loop's invariant: in the first `i` words the bytes are exchanged.
 use borrow.Author.Needs.{needs}
 use native.Mathlib.Omega.{arith}
+use Prim.Native.Nat.{_≤_, _-_, _+_, _*_}
+use mathlib.Core.Path.{_≡_, refl, _∙_}
+use Rattle.layout.specs.Layout.{wordAt, fill, wordsIn}
+use Rattle.layout.proofs.Turns.{fill-more}
+use Rattle.layout.proofs.Copied.{exchange-next, exchanged-all}
 use Rattle.layout.proofs.reader.words_in.Statement.{statement}
 use Rattle.layout.proofs.reader.words_in.Tie as tie
 
 abbrev Inv-loop : tie.InvT-loop
-Inv-loop s words₀ i₀ words i = (i ≤ 32) × (words ≡ fill (λ k. wordAt s (16 + 2 * k)) (replicate 32 0) i)
+Inv-loop s words₀ i₀ words i = (i ≤ 32) × (words ≡ fill (λ k. wordAt s (16 + 2 * k)) words₀ i)
 
 abbrev μ-loop : tie.MeasureT-loop
 μ-loop s words₀ i₀ words i = 32 - i
+
+copied-words-requires : tie.Need-copied-words-requires Inv-loop μ-loop
+copied-words-requires c κs = search needs
 
 loop-holds : tie.Need-loop-holds Inv-loop μ-loop
 unfolding fill
 loop-holds c = (omega arith, refl)
 
-mul-word-at : tie.Need-mul-word-at Inv-loop μ-loop
-mul-word-at c = search needs
+mul-exchange-bytes : tie.Need-mul-exchange-bytes Inv-loop μ-loop
+mul-exchange-bytes c = search needs
 
-add-word-at : tie.Need-add-word-at Inv-loop μ-loop
-add-word-at c = search needs
+array-read-exchange-bytes : tie.Need-array-read-exchange-bytes Inv-loop μ-loop
+array-read-exchange-bytes c = search needs
 
-word-at-requires : tie.Need-word-at-requires Inv-loop μ-loop
-word-at-requires c κs = search needs
+exchange-bytes-requires : tie.Need-exchange-bytes-requires Inv-loop μ-loop
+exchange-bytes-requires c κs = search needs
 
 mul-words : tie.Need-mul-words Inv-loop μ-loop
 mul-words c = search needs
@@ -41,12 +44,23 @@ loop-less : tie.Need-loop-less Inv-loop μ-loop
 loop-less c = search needs
 
 loop-again : tie.Need-loop-again Inv-loop μ-loop
-loop-again c = (omega arith, rw (fill-more, c .word-at .ensures, c .before .before .loop .inv .1))
+loop-again c =
+    let at = c .before .before .loop in
+    let copied = c .before .before .before .copied-words in
+    let byte = c .before .before .before .before .shared-slice-known .given in
+    let s = c .before .before .before .before .before .args .s .now in
+    let next =
+    exchange-next s (copied .result) (at .words) (at .i) (copied .ensures) (at .inv .1) (omega arith)
+    (omega (arith, byte (16 + 2 * at .i))) (omega (arith, byte (16 + 2 * at .i + 1))) in
+    (omega arith, rw (fill-more, ← at .inv .1, c .exchange-bytes .ensures, next))
 
 returns : tie.Need-returns Inv-loop μ-loop
 unfolding wordsIn
 returns c =
-    let e : c .before .loop .i ≡ 32 = omega arith in rw e at (c .before .loop .inv .1)
+    let at = c .before .loop in
+    let copied = c .before .before .copied-words in
+    let s = c .before .before .before .before .args .s .now in
+    let e : at .i ≡ 32 = omega arith in rw e at (at .inv .1) ∙ exchanged-all s (copied .result) (copied .ensures)
 
 pub words-in-spec : {M : Type 1} → statement M
 words-in-spec =
@@ -54,10 +68,11 @@ words-in-spec =
     (tie.spec
     Inv-loop
     μ-loop
+    copied-words-requires
     loop-holds
-    mul-word-at
-    add-word-at
-    word-at-requires
+    mul-exchange-bytes
+    array-read-exchange-bytes
+    exchange-bytes-requires
     mul-words
     array-write-words
     add-i
