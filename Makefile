@@ -1,6 +1,9 @@
 # The two commands of the README, and what they are made of.
 .PHONY: demo test compare bench fmt
 
+# Proofs and trials of wrong programs run four at a time, so that no processor waits for the slowest of a pair.
+export RT_JOBS ?= 4
+
 # The trace program on two samples, with the columns explained.
 demo:
 	@scripts/demo

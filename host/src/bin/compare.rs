@@ -13,7 +13,7 @@ use bench_side::compare::{compare, Case, Plain};
 use bench_side::terminal::Planted;
 
 const USAGE: &str = "usage: compare [--messages N] [--seed N] [--planted ERROR] [--replay FILE]";
-const MESSAGES: u64 = 2_000_000;
+const MESSAGES: u64 = 1_000_000;
 
 struct Options {
     messages: u64,
