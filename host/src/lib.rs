@@ -1,4 +1,4 @@
-//! A second, independent build of the bench's MIL-STD-1553 remote terminal, and
+//! A second, independent build of the MIL-STD-1553 remote terminal, and
 //! what compares it with the proved one.
 //!
 //! [`terminal`] carries out messages and whole traces; [`text`] turns traces

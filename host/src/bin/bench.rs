@@ -9,14 +9,14 @@ use std::env;
 use std::process::ExitCode;
 use std::time::Duration;
 
-use bench_side::clock::Clock;
-use bench_side::engine::boundary as proved;
-use bench_side::terminal::boundary::{
+use plain_terminal::clock::Clock;
+use plain_terminal::engine::boundary as proved;
+use plain_terminal::terminal::boundary::{
     self as plain, settings_words, value_words, ANSWER_WORDS, REMEMBERED_WORDS, VALUE_WORDS,
 };
-use bench_side::terminal::message::REPLY_WORDS;
-use bench_side::terminal::records::RECORD_BYTES;
-use bench_side::terminal::{write_record, Record, Settings};
+use plain_terminal::terminal::message::REPLY_WORDS;
+use plain_terminal::terminal::records::RECORD_BYTES;
+use plain_terminal::terminal::{write_record, Record, Settings};
 
 const USAGE: &str = "usage: bench, bench --rows, or bench --count ROW plain|proved MESSAGES";
 const REPEATS: usize = 11;

@@ -14,7 +14,7 @@ use std::process::{Command, ExitCode, Stdio};
 use std::thread;
 use std::time::Duration;
 
-use bench_side::compare::traces::long_trace;
+use plain_terminal::compare::traces::long_trace;
 
 const USAGE: &str = "usage: bench_traces PLAIN... -- PROVED...";
 const RECORDS: [usize; 4] = [0, 10_000, 100_000, 1_000_000];

@@ -5,12 +5,12 @@ use std::error::Error;
 use std::fs;
 use std::process::ExitCode;
 
-use bench_side::compare::coverage::Coverage;
-use bench_side::compare::replay::{read_case, write_case};
-use bench_side::compare::shrink::shrink;
-use bench_side::compare::sides::Proved;
-use bench_side::compare::{compare, Case, Plain};
-use bench_side::terminal::Planted;
+use plain_terminal::compare::coverage::Coverage;
+use plain_terminal::compare::replay::{read_case, write_case};
+use plain_terminal::compare::shrink::shrink;
+use plain_terminal::compare::sides::Proved;
+use plain_terminal::compare::{compare, Case, Plain};
+use plain_terminal::terminal::Planted;
 
 const USAGE: &str = "usage: compare [--messages N] [--seed N] [--planted ERROR] [--replay FILE]";
 const MESSAGES: u64 = 1_000_000;
@@ -125,11 +125,11 @@ fn replay(file: &str, planted: Planted) -> Result<bool, Box<dyn Error>> {
     let text = fs::read_to_string(file).map_err(|error| format!("{file}: {error}"))?;
     let case = read_case(&text).map_err(|error| format!("{file}: {error}"))?;
     let plain = Plain(planted);
-    let (answers, bench) = case.run(&Proved);
+    let (answers, state) = case.run(&Proved);
     println!("the proved terminal:");
     print!("{}", answers.lines());
     println!("what it changed (before, then after):");
-    print!("{}", case.bench.differences(&bench));
+    print!("{}", case.state.differences(&state));
     let differs = case.differs(&plain, &Proved);
     if differs {
         println!("what differs (plain Rust, then the proved terminal):");

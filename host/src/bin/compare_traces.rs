@@ -7,12 +7,12 @@ use std::io::Write;
 use std::process::{Command, ExitCode, Stdio};
 use std::thread;
 
-use bench_side::compare::traces::{random_trace, shrink_trace};
-use bench_side::random::Random;
-use bench_side::terminal::records::RECORD_BYTES;
-use bench_side::terminal::trace::{planted_trace_output, IMAGE_BYTES};
-use bench_side::terminal::Planted;
-use bench_side::text::unpack;
+use plain_terminal::compare::traces::{random_trace, shrink_trace};
+use plain_terminal::random::Random;
+use plain_terminal::terminal::records::RECORD_BYTES;
+use plain_terminal::terminal::trace::{planted_trace_output, IMAGE_BYTES};
+use plain_terminal::terminal::Planted;
+use plain_terminal::text::unpack;
 
 const USAGE: &str = "usage: compare_traces [--traces N] [--seed N] [--planted ERROR] \
     [--report short|whole] PROGRAM [ARGUMENT...]";
@@ -102,7 +102,7 @@ fn report(options: &Options, trace: &[u8], seed: u64) -> Result<(), Box<dyn Erro
     print!("{}", String::from_utf8_lossy(&expected));
     println!("the program prints:");
     print!("{}", String::from_utf8_lossy(&found));
-    println!("the smallest trace found, to be packed with bench_text pack:");
+    println!("the smallest trace found, to be packed with trace_text pack:");
     print!("{}", unpack(&smallest));
     Ok(())
 }

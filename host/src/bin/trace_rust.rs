@@ -6,8 +6,8 @@ use std::env;
 use std::io::{self, Read, Write};
 use std::process::ExitCode;
 
-use bench_side::terminal::stream_trace;
-use bench_side::text::trace_with_changes;
+use plain_terminal::terminal::stream_trace;
+use plain_terminal::text::trace_with_changes;
 
 const USAGE: &str = "usage: trace_rust [--changes]";
 

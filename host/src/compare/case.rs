@@ -16,17 +16,17 @@ pub const REPLY_ROOM: usize = 40;
 
 /// What a terminal works on and what it remembers.
 #[derive(Clone, Debug, PartialEq, Eq)]
-pub struct Bench {
+pub struct State {
     pub ram: Vec<u16>,
     pub reply: Vec<u16>,
     pub remembered: Remembered,
 }
 
-impl Default for Bench {
-    fn default() -> Bench {
+impl Default for State {
+    fn default() -> State {
         let mut ram = vec![0; RAM_WORDS + GUARD_WORDS];
         ram[RAM_WORDS..].fill(GUARD);
-        Bench {
+        State {
             ram,
             reply: vec![0; REPLY_ROOM],
             remembered: Remembered::default(),
@@ -45,9 +45,9 @@ pub enum Message {
 #[derive(Clone, Debug, PartialEq, Eq)]
 pub struct Request {
     pub settings: Settings,
-    /// How much of the bench's RAM is lent.
+    /// How much of the RAM is lent.
     pub ram_words: usize,
-    /// How much of the bench's reply room is lent.
+    /// How much of the reply room is lent.
     pub reply_words: usize,
     pub message: Message,
     /// Whether the whole-area check is asked for too.
@@ -65,25 +65,25 @@ pub struct Answers {
     pub answer: Answer,
 }
 
-/// Asks one side; the bench then holds what the message left.
-pub fn ask(side: &impl Side, bench: &mut Bench, request: &Request) -> Answers {
+/// Asks one side; the state then holds what the message left.
+pub fn ask(side: &impl Side, state: &mut State, request: &Request) -> Answers {
     let settings = &request.settings;
-    let ram = &mut bench.ram[..request.ram_words];
-    let reply = &mut bench.reply[..request.reply_words];
+    let ram = &mut state.ram[..request.ram_words];
+    let reply = &mut state.reply[..request.reply_words];
     let area = request.checks_area.then(|| side.check_area(ram, settings));
     let (read, written, (answer, remembered)) = match &request.message {
         Message::Bytes(bytes) => (
             Some(side.read_record(bytes)),
             None,
-            side.message_from_bytes(ram, reply, settings, bench.remembered, bytes),
+            side.message_from_bytes(ram, reply, settings, state.remembered, bytes),
         ),
         Message::Value(record) => (
             None,
             Some(side.write_record(record)),
-            side.message_from_record(ram, reply, settings, bench.remembered, record),
+            side.message_from_record(ram, reply, settings, state.remembered, record),
         ),
     };
-    bench.remembered = remembered;
+    state.remembered = remembered;
     Answers {
         area,
         read,
@@ -92,18 +92,18 @@ pub fn ask(side: &impl Side, bench: &mut Bench, request: &Request) -> Answers {
     }
 }
 
-/// A bench and what is asked on it.
+/// What a terminal starts from and what is asked of it.
 #[derive(Clone, Debug, PartialEq, Eq)]
 pub struct Case {
-    pub bench: Bench,
+    pub state: State,
     pub request: Request,
 }
 
 impl Case {
-    pub fn run(&self, side: &impl Side) -> (Answers, Bench) {
-        let mut bench = self.bench.clone();
-        let answers = ask(side, &mut bench, &self.request);
-        (answers, bench)
+    pub fn run(&self, side: &impl Side) -> (Answers, State) {
+        let mut state = self.state.clone();
+        let answers = ask(side, &mut state, &self.request);
+        (answers, state)
     }
 
     /// Whether two terminals answer differently or leave something different.
@@ -113,23 +113,23 @@ impl Case {
 
     /// A line for each difference: what it is, then the two sides' values.
     pub fn differences(&self, left: &impl Side, right: &impl Side) -> String {
-        let (left_answers, left_bench) = self.run(left);
-        let (right_answers, right_bench) = self.run(right);
+        let (left_answers, left_state) = self.run(left);
+        let (right_answers, right_state) = self.run(right);
         let mut lines = Lines(String::new());
         lines.debug("area", &left_answers.area, &right_answers.area);
         lines.debug("reader", &left_answers.read, &right_answers.read);
         lines.debug("writer", &left_answers.written, &right_answers.written);
         lines.answer(&left_answers.answer, &right_answers.answer);
-        lines.bench(&left_bench, &right_bench);
+        lines.state(&left_state, &right_state);
         lines.0
     }
 }
 
-impl Bench {
-    /// A line for each word in which another bench differs.
-    pub fn differences(&self, other: &Bench) -> String {
+impl State {
+    /// A line for each word in which another state differs.
+    pub fn differences(&self, other: &State) -> String {
         let mut lines = Lines(String::new());
-        lines.bench(self, other);
+        lines.state(self, other);
         lines.0
     }
 }
@@ -190,7 +190,7 @@ impl Lines {
         }
     }
 
-    fn bench(&mut self, left: &Bench, right: &Bench) {
+    fn state(&mut self, left: &State, right: &State) {
         let (left_memory, right_memory) = (left.remembered, right.remembered);
         self.word(
             "remembered command",

@@ -2,7 +2,7 @@
 
 use std::fmt;
 
-use super::case::{Answers, Bench, Message, Request};
+use super::case::{Answers, Message, Request, State};
 use crate::terminal::cells::{Cell, Kind, Scheme, Stack, RAM_WORDS};
 use crate::terminal::message::cell_kind;
 use crate::terminal::records::{
@@ -133,15 +133,15 @@ pub struct Before {
 }
 
 impl Before {
-    pub fn read(bench: &Bench, request: &Request) -> Before {
+    pub fn read(state: &State, request: &Request) -> Before {
         // What is refused with 3 has no stack to speak of.
         let cell = request.settings.check().ok().map(|()| {
             let settings = &request.settings;
             let command = Command(record_of(&request.message).map_or(0, |record| record.command));
             let kind = cell_kind(command, settings);
             (
-                Cell::read(&bench.ram, settings, kind, command.subaddress()),
-                Stack::read(&bench.ram, settings),
+                Cell::read(&state.ram, settings, kind, command.subaddress()),
+                Stack::read(&state.ram, settings),
             )
         });
         Before { cell }

@@ -5,7 +5,7 @@
 //! are to wrap. So cells are placed where they are sound, as far as there is
 //! room, and are then spoiled on purpose for single messages.
 
-use super::case::{Bench, Message, Request, GUARD_WORDS, REPLY_ROOM};
+use super::case::{Message, Request, State, GUARD_WORDS, REPLY_ROOM};
 use crate::random::Random;
 use crate::terminal::cells::{
     control_place, lookup_place, stack_pointer_place, Cell, Kind, Scheme, Stack, RAM_WORDS,
@@ -40,43 +40,43 @@ pub struct Episode {
 }
 
 impl Episode {
-    /// The episode of a seed, and the bench that it starts from.
-    pub fn new(seed: u64) -> (Episode, Bench) {
+    /// The episode of a seed, and the state that it starts from.
+    pub fn new(seed: u64) -> (Episode, State) {
         let mut random = Random::new(seed);
         let settings = random.settings();
         Episode::with_settings(random, settings)
     }
 
-    pub fn with_settings(random: Random, settings: Settings) -> (Episode, Bench) {
+    pub fn with_settings(random: Random, settings: Settings) -> (Episode, State) {
         let mut episode = Episode {
             random,
             settings,
             mend: Vec::new(),
             pokes: Vec::new(),
         };
-        let bench = episode.bench();
-        (episode, bench)
+        let state = episode.state();
+        (episode, state)
     }
 
-    fn bench(&mut self) -> Bench {
-        let mut bench = Bench::default();
+    fn state(&mut self) -> State {
+        let mut state = State::default();
         if !self.random.chance(4) {
             let random = &mut self.random;
-            bench.ram[..RAM_WORDS].fill_with(|| random.word());
-            bench.reply.fill_with(|| random.word());
+            state.ram[..RAM_WORDS].fill_with(|| random.word());
+            state.reply.fill_with(|| random.word());
         }
-        self.fill_tables(&mut bench.ram);
-        bench.remembered.command = self.random.word();
-        bench.remembered.status = self.random.word();
-        let pointer = self.sound_stack_pointer(&bench.ram);
-        bench.ram[stack_pointer_place(&self.settings)] = pointer;
-        let stack = Stack::read(&bench.ram, &self.settings);
+        self.fill_tables(&mut state.ram);
+        state.remembered.command = self.random.word();
+        state.remembered.status = self.random.word();
+        let pointer = self.sound_stack_pointer(&state.ram);
+        state.ram[stack_pointer_place(&self.settings)] = pointer;
+        let stack = Stack::read(&state.ram, &self.settings);
         for subaddress in 1..=30 {
             for (place, word) in self.placed_cells(&stack, subaddress) {
-                bench.ram[place] = word;
+                state.ram[place] = word;
             }
         }
-        bench
+        state
     }
 
     /// The illegal and busy tables: empty, thin or half full.
@@ -93,18 +93,18 @@ impl Episode {
         }
     }
 
-    /// What is asked next of a terminal on this bench. The host puts words
-    /// into the RAM before; [`Episode::pokes`] are the same for another bench.
-    pub fn step(&mut self, bench: &mut Bench) -> Request {
+    /// What is asked next of a terminal in this state. The host puts words
+    /// into the RAM before; [`Episode::pokes`] are the same for another state.
+    pub fn step(&mut self, state: &mut State) -> Request {
         self.pokes.clear();
         for (place, word) in std::mem::take(&mut self.mend) {
-            self.poke(bench, place, word);
+            self.poke(state, place, word);
         }
         if self.random.chance(4) {
             self.turn_settings();
         }
         let command = self.command();
-        self.aim(bench, command);
+        self.aim(state, command);
         let mut request = Request {
             settings: self.settings,
             ram_words: RAM_WORDS,
@@ -132,10 +132,10 @@ impl Episode {
             self.spoil_settings(&mut request.settings);
         }
         if self.random.chance(SPOILED_ONE_IN) {
-            self.spoil_stack(bench);
+            self.spoil_stack(state);
         }
         if self.random.chance(SPOILED_ONE_IN) {
-            self.spoil_cell(bench, command);
+            self.spoil_cell(state, command);
         }
         request
     }
@@ -144,15 +144,15 @@ impl Episode {
         &self.pokes
     }
 
-    fn poke(&mut self, bench: &mut Bench, place: usize, word: u16) {
-        bench.ram[place] = word;
+    fn poke(&mut self, state: &mut State, place: usize, word: u16) {
+        state.ram[place] = word;
         self.pokes.push((place, word));
     }
 
     /// Puts a word in for this message alone.
-    fn spoil(&mut self, bench: &mut Bench, place: usize, word: u16) {
-        self.mend.push((place, bench.ram[place]));
-        self.poke(bench, place, word);
+    fn spoil(&mut self, state: &mut State, place: usize, word: u16) {
+        self.mend.push((place, state.ram[place]));
+        self.poke(state, place, word);
     }
 
     /// New answers to the yes/no settings; the rest stays with the image.
@@ -196,43 +196,43 @@ impl Episode {
     }
 
     /// What the host changes so that the message finds something to meet.
-    fn aim(&mut self, bench: &mut Bench, command: Command) {
+    fn aim(&mut self, state: &mut State, command: Command) {
         let settings = self.settings;
         if self.random.chance(16) {
-            self.flip(bench, illegal_place(command));
+            self.flip(state, illegal_place(command));
         }
         if self.random.chance(16) {
-            self.flip(bench, busy_place(command));
+            self.flip(state, busy_place(command));
         }
         if self.random.chance(16) {
             // Near the end of its block, where it wraps.
             let place = stack_pointer_place(&settings);
-            let last = bench.ram[place] | (settings.stack_size - 4);
+            let last = state.ram[place] | (settings.stack_size - 4);
             let back = 4 * self.random.below(3) as u16;
-            self.poke(bench, place, last - back);
+            self.poke(state, place, last - back);
         }
-        let stack = Stack::read(&bench.ram, &settings);
+        let stack = Stack::read(&state.ram, &settings);
         let subaddress = command.subaddress();
         match self.random.below(6) {
             0 => {
                 for (place, word) in self.placed_cells(&stack, subaddress) {
-                    self.poke(bench, place, word);
+                    self.poke(state, place, word);
                 }
             }
             1 | 2 => {
                 let kind = cell_kind(command, &settings);
-                let cell = Cell::read(&bench.ram, &settings, kind, subaddress);
+                let cell = Cell::read(&state.ram, &settings, kind, subaddress);
                 if let Scheme::Circular(size) = cell.scheme {
                     let pointer = self.pointer_before_end(cell.pointer, size, command.word_count());
-                    self.poke(bench, lookup_place(&settings, kind, subaddress), pointer);
+                    self.poke(state, lookup_place(&settings, kind, subaddress), pointer);
                 }
             }
             _ => {}
         }
     }
 
-    fn flip(&mut self, bench: &mut Bench, place: BitPlace) {
-        self.poke(bench, place.word, bench.ram[place.word] ^ 1 << place.bit);
+    fn flip(&mut self, state: &mut State, place: BitPlace) {
+        self.poke(state, place.word, state.ram[place.word] ^ 1 << place.bit);
     }
 
     /// A pointer into the same circle from which a message of `count` words
@@ -329,9 +329,9 @@ impl Episode {
         }
     }
 
-    fn spoil_stack(&mut self, bench: &mut Bench) {
+    fn spoil_stack(&mut self, state: &mut State) {
         let place = stack_pointer_place(&self.settings);
-        let pointer = bench.ram[place];
+        let pointer = state.ram[place];
         let bad = match self.random.below(4) {
             0 => pointer ^ self.random.pick(&[1, 2, 3]),
             1 => self
@@ -342,21 +342,21 @@ impl Episode {
                 .pick(&[0x00FC, 0x0100, 0x01FC, 0x0200, 0x02FC, 0x0300, 0x03FC]),
             _ => self.random.word(),
         };
-        self.spoil(bench, place, bad);
+        self.spoil(state, place, bad);
     }
 
     /// A pointer or a control word with which the message's cell is unsound,
     /// or sound only just.
-    fn spoil_cell(&mut self, bench: &mut Bench, command: Command) {
+    fn spoil_cell(&mut self, state: &mut State, command: Command) {
         let settings = self.settings;
         let kind = cell_kind(command, &settings);
-        let stack = Stack::read(&bench.ram, &settings).block;
+        let stack = Stack::read(&state.ram, &settings).block;
         let (start, end) = (stack.start as u16, stack.end as u16);
         if self.random.chance(4) {
             let place = control_place(&settings, command.subaddress());
             let size_field = self.random.pick(&[1, 2, 3, 4, 5, 6, 7]);
-            let control = bench.ram[place] | size_field << size_shift(kind);
-            self.spoil(bench, place, control);
+            let control = state.ram[place] | size_field << size_shift(kind);
+            self.spoil(state, place, control);
         } else {
             let place = lookup_place(&settings, kind, command.subaddress());
             let bad = match self.random.below(4) {
@@ -368,13 +368,13 @@ impl Episode {
                     end.wrapping_sub(1),
                     end,
                 ]),
-                2 => bench.ram[place] ^ self.random.pick(&[1, 16, 0x1000, 0x8000]),
+                2 => state.ram[place] ^ self.random.pick(&[1, 16, 0x1000, 0x8000]),
                 _ => self.random.pick(&[
                     0x00E0, 0x00E1, 0x00FF, 0x0100, 0x0247, 0x0248, 0x02E0, 0x02E1, 0x0300, 0x03FF,
                     0x0400, 0x0FE0, 0x0FE1, 0x0FFF, 0x1000, 0xFFE0, 0xFFFF,
                 ]),
             };
-            self.spoil(bench, place, bad);
+            self.spoil(state, place, bad);
         }
     }
 

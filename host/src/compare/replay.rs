@@ -16,7 +16,7 @@
 
 use std::fmt::{self, Write};
 
-use super::case::{Bench, Case, Message, Request, GUARD_WORDS, REPLY_ROOM};
+use super::case::{Case, Message, Request, State, GUARD_WORDS, REPLY_ROOM};
 use crate::terminal::cells::RAM_WORDS;
 use crate::terminal::message::REPLY_WORDS;
 use crate::terminal::records::{Record, RECORD_BYTES, RECORD_WORDS};
@@ -48,7 +48,7 @@ pub fn write_case(case: &Case) -> String {
 }
 
 fn write_lines(text: &mut String, case: &Case) -> fmt::Result {
-    let Case { bench, request } = case;
+    let Case { state, request } = case;
     let mut settings = request.settings;
     let area = if settings.area_b { 'B' } else { 'A' };
     write!(text, "settings address {} ", settings.address)?;
@@ -64,20 +64,20 @@ fn write_lines(text: &mut String, case: &Case) -> fmt::Result {
         "lent ram {} reply {}",
         request.ram_words, request.reply_words
     )?;
-    let remembered = bench.remembered;
+    let remembered = state.remembered;
     writeln!(
         text,
         "remembered {:04X} {:04X}",
         remembered.command, remembered.status
     )?;
-    if bench.reply.iter().any(|&word| word != 0) {
+    if state.reply.iter().any(|&word| word != 0) {
         text.push_str("reply");
-        write_words(text, &bench.reply)?;
+        write_words(text, &state.reply)?;
         writeln!(text)?;
     }
     let mut input: Vec<u8> = Vec::new();
     input.extend(
-        bench.ram[..RAM_WORDS]
+        state.ram[..RAM_WORDS]
             .iter()
             .flat_map(|word| word.to_be_bytes()),
     );
@@ -120,7 +120,7 @@ fn write_words(text: &mut String, words: &[u16]) -> fmt::Result {
 pub fn read_case(text: &str) -> Result<Case, TextError> {
     let mut settings = Settings::TRACE;
     let mut lent = (RAM_WORDS, REPLY_WORDS);
-    let mut bench = Bench::default();
+    let mut state = State::default();
     let mut message = None;
     // The lines that `pack` knows; the others are empty there, so that the
     // numbers of the lines stay.
@@ -135,12 +135,12 @@ pub fn read_case(text: &str) -> Result<Case, TextError> {
             Some("settings") => settings = read_settings(&mut tokens)?,
             Some("lent") => lent = read_lent(&mut tokens)?,
             Some("remembered") => {
-                bench.remembered.command = tokens.hex("a command")?;
-                bench.remembered.status = tokens.hex("a status word")?;
+                state.remembered.command = tokens.hex("a command")?;
+                state.remembered.status = tokens.hex("a status word")?;
             }
             Some("reply") => {
                 let words = tokens.words(REPLY_ROOM)?;
-                bench.reply[..words.len()].copy_from_slice(&words);
+                state.reply[..words.len()].copy_from_slice(&words);
             }
             Some("bytes") => message = Some(Message::Bytes(tokens.bytes()?)),
             Some("value") => message = Some(Message::Value(read_value(&mut tokens)?)),
@@ -159,7 +159,7 @@ pub fn read_case(text: &str) -> Result<Case, TextError> {
     }
     let input = pack(packed_lines.as_bytes())?;
     let (image, records) = input.split_at(input.len().min(IMAGE_BYTES));
-    for (word, pair) in bench.ram.iter_mut().zip(image.chunks_exact(2)) {
+    for (word, pair) in state.ram.iter_mut().zip(image.chunks_exact(2)) {
         *word = u16::from_be_bytes([pair[0], pair[1]]);
     }
     let message = match message {
@@ -175,7 +175,7 @@ pub fn read_case(text: &str) -> Result<Case, TextError> {
     };
     let (ram_words, reply_words) = lent;
     Ok(Case {
-        bench,
+        state,
         request: Request {
             settings,
             ram_words,

@@ -39,17 +39,17 @@ fn run_episode(
     seed: u64,
     coverage: &mut Coverage,
 ) -> Option<Finding> {
-    let (mut episode, mut left_bench) = Episode::new(seed);
-    let mut right_bench = left_bench.clone();
+    let (mut episode, mut left_state) = Episode::new(seed);
+    let mut right_state = left_state.clone();
     for message in 1..=EPISODE_MESSAGES {
-        let request = episode.step(&mut left_bench);
+        let request = episode.step(&mut left_state);
         for &(place, word) in episode.pokes() {
-            right_bench.ram[place] = word;
+            right_state.ram[place] = word;
         }
-        let before = Before::read(&left_bench, &request);
-        let left_answers = ask(left, &mut left_bench, &request);
-        let right_answers = ask(right, &mut right_bench, &request);
-        if left_answers != right_answers || left_bench != right_bench {
+        let before = Before::read(&left_state, &request);
+        let left_answers = ask(left, &mut left_state, &request);
+        let right_answers = ask(right, &mut right_state, &request);
+        if left_answers != right_answers || left_state != right_state {
             return Some(Finding {
                 seed,
                 message,
@@ -63,11 +63,11 @@ fn run_episode(
 
 /// Runs an episode again on one side, up to one of its messages.
 fn case_of(side: &impl Side, seed: u64, message: usize) -> Case {
-    let (mut episode, mut bench) = Episode::new(seed);
+    let (mut episode, mut state) = Episode::new(seed);
     for _ in 1..message {
-        let request = episode.step(&mut bench);
-        ask(side, &mut bench, &request);
+        let request = episode.step(&mut state);
+        ask(side, &mut state, &request);
     }
-    let request = episode.step(&mut bench);
-    Case { bench, request }
+    let request = episode.step(&mut state);
+    Case { state, request }
 }

@@ -26,8 +26,8 @@ impl<F: Fn(&Case) -> bool> Shrinking<F> {
     /// One round of every step; whether anything became smaller.
     fn round(&mut self) -> bool {
         let mut smaller = self.zero_ram();
-        smaller |= self.take(|case| case.bench.reply.fill(0));
-        smaller |= self.take(|case| case.bench.remembered = Remembered::default());
+        smaller |= self.take(|case| case.state.reply.fill(0));
+        smaller |= self.take(|case| case.state.remembered = Remembered::default());
         for simpler in SIMPLER_SETTINGS {
             smaller |= self.take(|case| simpler(&mut case.request.settings));
         }
@@ -52,16 +52,16 @@ impl<F: Fn(&Case) -> bool> Shrinking<F> {
     /// Zeroes RAM, in blocks that become smaller.
     fn zero_ram(&mut self) -> bool {
         let mut smaller = false;
-        let length = self.case.bench.ram.len();
+        let length = self.case.state.ram.len();
         let mut size = length.next_power_of_two();
         while size > 0 {
             for start in (0..length).step_by(size) {
                 let block = start..length.min(start + size);
-                if self.case.bench.ram[block.clone()]
+                if self.case.state.ram[block.clone()]
                     .iter()
                     .any(|&word| word != 0)
                 {
-                    smaller |= self.take(|case| case.bench.ram[block].fill(0));
+                    smaller |= self.take(|case| case.state.ram[block].fill(0));
                 }
             }
             size /= 2;

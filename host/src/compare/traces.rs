@@ -1,7 +1,7 @@
 //! Random traces for the trace program, and the smallest one that shows a
 //! difference.
 
-use super::case::Bench;
+use super::case::State;
 use super::episode::Episode;
 use crate::random::Random;
 use crate::terminal::cells::RAM_WORDS;
@@ -32,14 +32,14 @@ pub fn random_trace(seed: u64) -> Vec<u8> {
     };
     let short_image = random.chance(24).then(|| random.below(IMAGE_BYTES));
     let spoiled_words = random.pick(&[0, 0, 1, 4]);
-    let (mut episode, mut bench) = Episode::with_settings(random.clone(), Settings::TRACE);
+    let (mut episode, mut state) = Episode::with_settings(random.clone(), Settings::TRACE);
     for _ in 0..spoiled_words {
         // The stack pointer, or a word of the lookup tables.
         let looked_up = 0x0140 + random.below(128);
         let place = random.pick(&[0x0100, looked_up]);
-        bench.ram[place] = random.word();
+        state.ram[place] = random.word();
     }
-    let mut trace = image_of(&bench);
+    let mut trace = image_of(&state);
     for _ in 0..records {
         trace.extend(episode.record());
     }
@@ -52,16 +52,16 @@ pub fn random_trace(seed: u64) -> Vec<u8> {
 
 /// A trace of so many records, most of them accepted, for measurements.
 pub fn long_trace(records: usize) -> Vec<u8> {
-    let (mut episode, bench) = Episode::with_settings(Random::new(1), Settings::TRACE);
-    let mut trace = image_of(&bench);
+    let (mut episode, state) = Episode::with_settings(Random::new(1), Settings::TRACE);
+    let mut trace = image_of(&state);
     for _ in 0..records {
         trace.extend(episode.record());
     }
     trace
 }
 
-fn image_of(bench: &Bench) -> Vec<u8> {
-    let image = bench.ram[..RAM_WORDS].iter();
+fn image_of(state: &State) -> Vec<u8> {
+    let image = state.ram[..RAM_WORDS].iter();
     image.flat_map(|word| word.to_be_bytes()).collect()
 }
 

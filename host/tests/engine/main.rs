@@ -1,14 +1,14 @@
 //! The proved terminal, called through its boundary. Needs the feature
 //! `engine`.
 
-use bench_side::compare::coverage::Coverage;
-use bench_side::compare::shrink::shrink;
-use bench_side::compare::sides::Proved;
-use bench_side::compare::{compare, Plain};
-use bench_side::engine::boundary as proved;
-use bench_side::random::Random;
-use bench_side::terminal::boundary::{self as plain, settings_words, value_words};
-use bench_side::terminal::{write_record, Planted, Record, Settings};
+use plain_terminal::compare::coverage::Coverage;
+use plain_terminal::compare::shrink::shrink;
+use plain_terminal::compare::sides::Proved;
+use plain_terminal::compare::{compare, Plain};
+use plain_terminal::engine::boundary as proved;
+use plain_terminal::random::Random;
+use plain_terminal::terminal::boundary::{self as plain, settings_words, value_words};
+use plain_terminal::terminal::{write_record, Planted, Record, Settings};
 
 /// The example of the scope document: RT 5, a circle of 128 words.
 fn example_ram() -> Vec<u16> {
@@ -77,7 +77,7 @@ fn every_planted_error_is_caught() {
         let finding = compare(&plain, &Proved, 1, 100_000, &mut coverage);
         let case = finding.expect(planted.name()).case;
         let smallest = shrink(&case, |case| case.differs(&plain, &Proved));
-        let words = smallest.bench.ram.iter().filter(|&&word| word != 0).count();
+        let words = smallest.state.ram.iter().filter(|&&word| word != 0).count();
         assert!(words <= 4, "{}: {words} words", planted.name());
     }
 }

@@ -1,13 +1,13 @@
 //! Worked examples from the makers' documents, as far as the base runs them.
 //! The letters and numbers are those of the list of makers' facts.
 
-use bench_side::terminal::cells::{Cell, Kind, Scheme};
-use bench_side::terminal::records::{FLAG_BUS_B, FLAG_INVALID_WORD, FLAG_WRONG_SYNC};
-use bench_side::terminal::tables::{busy_place, illegal_place, BitPlace};
-use bench_side::terminal::words::Command;
-use bench_side::terminal::{check_area, trace_output, write_record, Settings};
+use plain_terminal::terminal::cells::{Cell, Kind, Scheme};
+use plain_terminal::terminal::records::{FLAG_BUS_B, FLAG_INVALID_WORD, FLAG_WRONG_SYNC};
+use plain_terminal::terminal::tables::{busy_place, illegal_place, BitPlace};
+use plain_terminal::terminal::words::Command;
+use plain_terminal::terminal::{check_area, trace_output, write_record, Settings};
 
-use crate::helpers::{good, heard, numbered_words, record, Bench, UNTOUCHED};
+use crate::helpers::{good, heard, numbered_words, record, Terminal, UNTOUCHED};
 use crate::trace::image;
 
 const RT5: Settings = Settings::TRACE;
@@ -42,34 +42,34 @@ fn command_words() {
 
 #[test]
 fn e1_cell_of_a_transmit() {
-    let mut bench = Bench::new(rt(1), &[(0x0161, 0x0400)]);
-    assert_eq!(bench.run(&good(0x0C22)).cell, 33);
+    let mut terminal = Terminal::new(rt(1), &[(0x0161, 0x0400)]);
+    assert_eq!(terminal.run(&good(0x0C22)).cell, 33);
 }
 
 #[test]
 fn e2_two_words_of_zero() {
-    let mut bench = Bench::new(rt(1), &[(0x0142, 0x0400)]);
+    let mut terminal = Terminal::new(rt(1), &[(0x0142, 0x0400)]);
     let message = record(0x0842, &[0, 0]);
-    assert_eq!(bench.columns(&message), "8000 0400 0400 0800 0 0003");
-    assert_eq!(bench.remembered.command, 0x0842);
+    assert_eq!(terminal.columns(&message), "8000 0400 0400 0800 0 0003");
+    assert_eq!(terminal.remembered.command, 0x0842);
 }
 
 #[test]
 fn e3_four_words() {
     let words = [0x1111, 0x2222, 0x3333, 0x4444];
-    let mut bench = Bench::new(rt(1), &[(0x0141, 0x0400)]);
+    let mut terminal = Terminal::new(rt(1), &[(0x0141, 0x0400)]);
     assert_eq!(
-        bench.columns(&record(0x0824, &words)),
+        terminal.columns(&record(0x0824, &words)),
         "8000 0400 0400 0800 0 0003"
     );
-    assert_eq!(bench.ram[0x0400..0x0404], words);
-    assert_eq!(bench.ram[..4], [0x8000, 0x7A60, 0x0400, 0x0824]);
+    assert_eq!(terminal.ram[0x0400..0x0404], words);
+    assert_eq!(terminal.ram[..4], [0x8000, 0x7A60, 0x0400, 0x0824]);
 }
 
 #[test]
 fn e5_mode_commands_are_refused() {
-    let mut bench = Bench::new(rt(4), &[]);
-    assert_eq!(bench.columns(&record(0x2011, &[0xABCD])), "7");
+    let mut terminal = Terminal::new(rt(4), &[]);
+    assert_eq!(terminal.columns(&record(0x2011, &[0xABCD])), "7");
 }
 
 #[test]
@@ -89,18 +89,18 @@ fn e6_a_program_for_four_terminals() {
     let expected = "1 0 8000 0400 0400 2800 0 0003\n2 6\n3 6\n4 6\nend 4\n";
     assert_eq!(String::from_utf8(trace_output(&input)).unwrap(), expected);
 
-    let mut bench = Bench::new(RT5, &[(0x0141, 0x0400)]);
-    bench.run(&records[0]);
-    assert_eq!(bench.ram[0x0400..0x040A], data[..10]);
-    assert_eq!(bench.ram[0x040A], 0);
+    let mut terminal = Terminal::new(RT5, &[(0x0141, 0x0400)]);
+    terminal.run(&records[0]);
+    assert_eq!(terminal.ram[0x0400..0x040A], data[..10]);
+    assert_eq!(terminal.ram[0x040A], 0);
 
     for (address, lookup, record, expected) in [
         (6, 0x0141, records[1], "8000 0400 0400 3000 0 0003"),
         (8, 0x0164, records[2], "8000 0400 0400 4000 5 0003"),
         (7, 0x0162, records[3], "8000 0400 0400 3800 32 0003"),
     ] {
-        let mut bench = Bench::new(rt(address), &[(lookup, 0x0400)]);
-        assert_eq!(bench.columns(&record), expected);
+        let mut terminal = Terminal::new(rt(address), &[(lookup, 0x0400)]);
+        assert_eq!(terminal.columns(&record), expected);
     }
 }
 
@@ -116,17 +116,17 @@ fn e8_illegal_bit_of_32_words() {
 /// E-9 to E-11: all status bits of the settings together.
 #[test]
 fn e11_status_bits() {
-    let mut bench = Bench::with_circle(0x0400);
-    bench.settings.service_request = true;
-    bench.settings.subsystem_flag = true;
-    bench.settings.terminal_flag = true;
-    assert_eq!(bench.run(&good(0x2864)).status, 0x2905);
+    let mut terminal = Terminal::with_circle(0x0400);
+    terminal.settings.service_request = true;
+    terminal.settings.subsystem_flag = true;
+    terminal.settings.terminal_flag = true;
+    assert_eq!(terminal.run(&good(0x2864)).status, 0x2905);
 }
 
 fn cells_of(control: u16) -> [Cell; 3] {
-    let bench = Bench::new(RT5, &[(0x01A3, control)]);
+    let terminal = Terminal::new(RT5, &[(0x01A3, control)]);
     [Kind::Receive, Kind::Transmit, Kind::Broadcast]
-        .map(|kind| Cell::read(&bench.ram, &RT5, kind, 3))
+        .map(|kind| Cell::read(&terminal.ram, &RT5, kind, 3))
 }
 
 /// E-13 to E-15.
@@ -151,8 +151,8 @@ fn control_words() {
     assert!(cells[1].message_interrupt);
 }
 
-fn circle(pointer: u16, control: u16) -> Bench {
-    Bench::new(RT5, &[(0x0143, pointer), (0x01A3, control)])
+fn circle(pointer: u16, control: u16) -> Terminal {
+    Terminal::new(RT5, &[(0x0143, pointer), (0x01A3, control)])
 }
 
 #[test]
@@ -162,12 +162,24 @@ fn e16_rollover_at_the_top_of_256_words() {
     assert_eq!(cell.window(), 0x0100..0x0200);
     assert_eq!(fixed_area.columns(&good(0x2860)), "9");
 
-    let mut bench = circle(0x0590, 0x0140);
-    assert_eq!(bench.columns(&good(0x2860)), "8000 0590 05B0 2800 0 0003");
-    assert_eq!(bench.columns(&good(0x2860)), "8000 05B0 05D0 2800 0 0003");
-    assert_eq!(bench.columns(&good(0x2860)), "8000 05D0 05F0 2800 0 0003");
-    let mut longer = bench.clone();
-    assert_eq!(bench.columns(&good(0x2870)), "8080 05F0 0500 2800 0 0403");
+    let mut terminal = circle(0x0590, 0x0140);
+    assert_eq!(
+        terminal.columns(&good(0x2860)),
+        "8000 0590 05B0 2800 0 0003"
+    );
+    assert_eq!(
+        terminal.columns(&good(0x2860)),
+        "8000 05B0 05D0 2800 0 0003"
+    );
+    assert_eq!(
+        terminal.columns(&good(0x2860)),
+        "8000 05D0 05F0 2800 0 0003"
+    );
+    let mut longer = terminal.clone();
+    assert_eq!(
+        terminal.columns(&good(0x2870)),
+        "8080 05F0 0500 2800 0 0403"
+    );
 
     assert_eq!(longer.columns(&good(0x2860)), "8080 05F0 0510 2800 0 0403");
     assert_eq!(longer.ram[0x05F0..0x0600], numbered_words(0xA000, 16));
@@ -177,29 +189,38 @@ fn e16_rollover_at_the_top_of_256_words() {
 
 #[test]
 fn e17_a_thousand_words() {
-    let mut bench = circle(0x0818, 0x0180);
+    let mut terminal = circle(0x0818, 0x0180);
     for _ in 0..30 {
-        assert_eq!(bench.run(&good(0x2860)).block_status, 0x8000);
+        assert_eq!(terminal.run(&good(0x2860)).block_status, 0x8000);
     }
-    assert_eq!(bench.columns(&good(0x2860)), "8000 0BD8 0BF8 2800 0 0003");
-    assert_eq!(bench.columns(&good(0x2868)), "8080 0BF8 0800 2800 0 0403");
+    assert_eq!(
+        terminal.columns(&good(0x2860)),
+        "8000 0BD8 0BF8 2800 0 0003"
+    );
+    assert_eq!(
+        terminal.columns(&good(0x2868)),
+        "8080 0BF8 0800 2800 0 0403"
+    );
 
-    let mut bench = circle(0x0818, 0x0180);
+    let mut terminal = circle(0x0818, 0x0180);
     for _ in 0..39 {
-        assert_eq!(bench.run(&good(0x2879)).block_status, 0x8000);
+        assert_eq!(terminal.run(&good(0x2879)).block_status, 0x8000);
     }
-    let last = bench.run(&good(0x2879));
+    let last = terminal.run(&good(0x2879));
     assert_eq!((last.block_status, last.pointer_after), (0x8080, 0x0800));
 }
 
 #[test]
 fn e17_failed_messages_are_simply_sent_again() {
-    let mut bench = circle(0x0818, 0x0180);
+    let mut terminal = circle(0x0818, 0x0180);
     for _ in 0..31 {
-        assert_eq!(bench.run(&heard(0x2860, 7, 0)).block_status, 0x9420);
-        assert_eq!(bench.run(&good(0x2860)).block_status, 0x8000);
+        assert_eq!(terminal.run(&heard(0x2860, 7, 0)).block_status, 0x9420);
+        assert_eq!(terminal.run(&good(0x2860)).block_status, 0x8000);
     }
-    assert_eq!(bench.columns(&good(0x2868)), "8080 0BF8 0800 2800 0 0403");
+    assert_eq!(
+        terminal.columns(&good(0x2868)),
+        "8080 0BF8 0800 2800 0 0403"
+    );
 }
 
 #[test]
@@ -211,9 +232,9 @@ fn e18_messages_in_each_circle() {
         (4, 0x0400, 32),
         (5, 0x0800, 64),
     ] {
-        let mut bench = circle(pointer, 0x0100 | field << 5);
+        let mut terminal = circle(pointer, 0x0100 | field << 5);
         for number in 1..=messages {
-            let answer = bench.run(&good(0x2860));
+            let answer = terminal.run(&good(0x2860));
             let last = number == messages;
             let expected = if last { pointer } else { pointer + 32 * number };
             assert_eq!(answer.pointer_after, expected);
@@ -226,29 +247,29 @@ fn e18_messages_in_each_circle() {
 #[test]
 fn e19_the_host_sends_a_block_again() {
     for control in [0x1000, 0x3000] {
-        let mut bench = Bench::new(RT5, &[(0x0163, 0x0800), (0x01A3, control)]);
+        let mut terminal = Terminal::new(RT5, &[(0x0163, 0x0800), (0x01A3, control)]);
         let block = numbered_words(0x5000, 32);
-        bench.ram[0x0800..0x0820].copy_from_slice(&block);
+        terminal.ram[0x0800..0x0820].copy_from_slice(&block);
         for _ in 0..2 {
-            bench.reply.fill(UNTOUCHED);
-            let answer = bench.run(&good(0x2C60));
+            terminal.reply.fill(UNTOUCHED);
+            let answer = terminal.run(&good(0x2C60));
             assert_eq!(answer.pointer_after, 0x0820);
             assert_eq!(answer.interrupt, 0x0003);
-            assert_eq!(bench.reply[1..33], block);
-            bench.ram[0x0163] = 0x0800;
+            assert_eq!(terminal.reply[1..33], block);
+            terminal.ram[0x0163] = 0x0800;
         }
     }
 }
 
 #[test]
 fn e19_no_subaddress_reaches_a_lookup_word() {
-    let mut bench = Bench::new(RT5, &[(0x0144, 0x0163), (0x0164, 0x0163)]);
-    assert_eq!(bench.columns(&good(0x2881)), "9");
-    assert_eq!(bench.columns(&good(0x2C81)), "9");
+    let mut terminal = Terminal::new(RT5, &[(0x0144, 0x0163), (0x0164, 0x0163)]);
+    assert_eq!(terminal.columns(&good(0x2881)), "9");
+    assert_eq!(terminal.columns(&good(0x2C81)), "9");
 }
 
 /// The image of the complete RT example, section 1.3.
-fn rt7() -> Bench {
+fn rt7() -> Terminal {
     let settings = Settings {
         address: 7,
         separate_broadcast: true,
@@ -256,9 +277,9 @@ fn rt7() -> Bench {
         busy_receive_disable: true,
         ..RT5
     };
-    let mut bench = Bench::new(settings, &[(0x0120, 0x1234)]);
+    let mut terminal = Terminal::new(settings, &[(0x0120, 0x1234)]);
     for table in [0x0140, 0x0160, 0x0180] {
-        bench.ram[table + 1..table + 31].fill(0x04E0);
+        terminal.ram[table + 1..table + 31].fill(0x04E0);
     }
     for (address, word) in [
         (0x0147, 0x0800),
@@ -273,7 +294,7 @@ fn rt7() -> Bench {
         (0x01A7, 0x018C),
         (0x01B3, 0x8210),
     ] {
-        bench.ram[address] = word;
+        terminal.ram[address] = word;
     }
     for (first, last, word) in [
         (0x0300, 0x0300, 0xFFFF),
@@ -299,22 +320,22 @@ fn rt7() -> Bench {
         (0x03FE, 0x03FE, 0xFE00),
         (0x03FF, 0x03FF, 0xFFF2),
     ] {
-        bench.ram[first..=last].fill(word);
+        terminal.ram[first..=last].fill(word);
     }
-    bench.ram[0x0400..0x0420].copy_from_slice(&numbered_words(0, 32));
-    bench
+    terminal.ram[0x0400..0x0420].copy_from_slice(&numbered_words(0, 32));
+    terminal
 }
 
 #[test]
 fn e20a_the_area_is_sound() {
-    let mut bench = rt7();
-    assert_eq!(check_area(&bench.ram, &bench.settings), (0, 0));
-    bench.settings.separate_broadcast = false;
-    assert_eq!(check_area(&bench.ram, &bench.settings), (0, 0));
+    let mut terminal = rt7();
+    assert_eq!(check_area(&terminal.ram, &terminal.settings), (0, 0));
+    terminal.settings.separate_broadcast = false;
+    assert_eq!(check_area(&terminal.ram, &terminal.settings), (0, 0));
     // As the pseudo code prints it.
-    bench.settings.separate_broadcast = true;
-    bench.ram[0x019E] = 0x4080;
-    assert_eq!(check_area(&bench.ram, &bench.settings), (9, 94));
+    terminal.settings.separate_broadcast = true;
+    terminal.ram[0x019E] = 0x4080;
+    assert_eq!(check_area(&terminal.ram, &terminal.settings), (9, 94));
 }
 
 #[test]
@@ -337,66 +358,93 @@ fn e20b_legal_subaddresses() {
 
 #[test]
 fn e20c_transmit_from_subaddress_1() {
-    let mut bench = rt7();
-    assert_eq!(bench.columns(&good(0x3C20)), "8000 0400 0400 3800 32 0007");
-    assert_eq!(bench.reply[0], 0x3800);
-    assert_eq!(bench.reply[1..33], numbered_words(0, 32));
-    assert_eq!(bench.ram[..4], [0x8000, 0x7A60, 0x0400, 0x3C20]);
+    let mut terminal = rt7();
+    assert_eq!(
+        terminal.columns(&good(0x3C20)),
+        "8000 0400 0400 3800 32 0007"
+    );
+    assert_eq!(terminal.reply[0], 0x3800);
+    assert_eq!(terminal.reply[1..33], numbered_words(0, 32));
+    assert_eq!(terminal.ram[..4], [0x8000, 0x7A60, 0x0400, 0x3C20]);
 }
 
 #[test]
 fn e20d_a_full_circle_at_subaddress_7() {
-    let mut bench = rt7();
-    assert_eq!(bench.columns(&good(0x38E0)), "8000 0800 0820 3800 0 0003");
+    let mut terminal = rt7();
+    assert_eq!(
+        terminal.columns(&good(0x38E0)),
+        "8000 0800 0820 3800 0 0003"
+    );
     for _ in 2..32 {
-        assert_eq!(bench.run(&good(0x38E0)).block_status, 0x8000);
+        assert_eq!(terminal.run(&good(0x38E0)).block_status, 0x8000);
     }
-    assert_eq!(bench.columns(&good(0x38E0)), "8080 0BE0 0800 3800 0 0403");
+    assert_eq!(
+        terminal.columns(&good(0x38E0)),
+        "8080 0BE0 0800 3800 0 0403"
+    );
 }
 
 #[test]
 fn e20e_double_buffer_at_subaddress_19() {
-    let mut bench = rt7();
-    assert_eq!(bench.columns(&good(0x3A60)), "8000 0440 0460 3800 0 0007");
-    assert_eq!(bench.columns(&good(0x3A60)), "8000 0460 0440 3800 0 0007");
+    let mut terminal = rt7();
     assert_eq!(
-        bench.columns(&heard(0x3A60, 31, 0)),
+        terminal.columns(&good(0x3A60)),
+        "8000 0440 0460 3800 0 0007"
+    );
+    assert_eq!(
+        terminal.columns(&good(0x3A60)),
+        "8000 0460 0440 3800 0 0007"
+    );
+    assert_eq!(
+        terminal.columns(&heard(0x3A60, 31, 0)),
         "9420 0440 0440 none 0 0017"
     );
 }
 
 #[test]
 fn e20f_data_wraps_around_at_subaddress_30() {
-    let mut bench = rt7();
-    assert_eq!(bench.columns(&good(0x3BC0)), "8000 0480 0480 3800 0 0003");
-    assert_eq!(bench.columns(&good(0x3FC0)), "8000 0480 0480 3800 32 0003");
-    assert_eq!(bench.reply[1..33], good(0x3BC0).words);
+    let mut terminal = rt7();
+    assert_eq!(
+        terminal.columns(&good(0x3BC0)),
+        "8000 0480 0480 3800 0 0003"
+    );
+    assert_eq!(
+        terminal.columns(&good(0x3FC0)),
+        "8000 0480 0480 3800 32 0003"
+    );
+    assert_eq!(terminal.reply[1..33], good(0x3BC0).words);
 }
 
 /// The makers' own mistake: the flip lands on subaddress 30's block.
 #[test]
 fn e20g_broadcasts_land_in_another_block() {
-    let mut bench = rt7();
+    let mut terminal = rt7();
     let first = record(0xFA60, &numbered_words(0xB000, 32));
     let second = record(0xFA60, &numbered_words(0xC000, 32));
-    assert_eq!(bench.columns(&first), "8000 04A0 0480 none 0 0007");
-    assert_eq!(bench.ram[0x04A0..0x04C0], first.words);
-    assert_eq!(bench.remembered.status, 0x3810);
-    assert_eq!(bench.columns(&second), "8000 0480 04A0 none 0 0007");
-    assert_eq!(bench.ram[0x0480..0x04A0], second.words);
-    bench.run(&good(0x3FC0));
-    assert_eq!(bench.reply[1..33], second.words);
-    assert_eq!(bench.ram[0x04C0..0x04E0], [0; 32]);
+    assert_eq!(terminal.columns(&first), "8000 04A0 0480 none 0 0007");
+    assert_eq!(terminal.ram[0x04A0..0x04C0], first.words);
+    assert_eq!(terminal.remembered.status, 0x3810);
+    assert_eq!(terminal.columns(&second), "8000 0480 04A0 none 0 0007");
+    assert_eq!(terminal.ram[0x0480..0x04A0], second.words);
+    terminal.run(&good(0x3FC0));
+    assert_eq!(terminal.reply[1..33], second.words);
+    assert_eq!(terminal.ram[0x04C0..0x04E0], [0; 32]);
 }
 
 #[test]
 fn e20h_unused_receive() {
-    let mut bench = rt7();
-    assert_eq!(bench.columns(&good(0x3821)), "8040 04E0 04E0 3C00 0 4003");
-    assert_eq!(bench.ram[0x04E0], 0);
-    bench.settings.illegal_receive_disable = false;
-    assert_eq!(bench.columns(&good(0x3821)), "8040 04E0 04E0 3C00 0 4003");
-    assert_eq!(bench.ram[0x04E0], 0xA000);
+    let mut terminal = rt7();
+    assert_eq!(
+        terminal.columns(&good(0x3821)),
+        "8040 04E0 04E0 3C00 0 4003"
+    );
+    assert_eq!(terminal.ram[0x04E0], 0);
+    terminal.settings.illegal_receive_disable = false;
+    assert_eq!(
+        terminal.columns(&good(0x3821)),
+        "8040 04E0 04E0 3C00 0 4003"
+    );
+    assert_eq!(terminal.ram[0x04E0], 0xA000);
 }
 
 #[test]
@@ -406,29 +454,38 @@ fn e20i_unused_transmit() {
 
 #[test]
 fn e20j_broadcast_to_subaddress_7() {
-    let mut bench = rt7();
-    assert_eq!(bench.columns(&good(0xF8E0)), "8000 0C00 0C20 none 0 0003");
-    assert_eq!(bench.remembered.status, 0x3810);
+    let mut terminal = rt7();
+    assert_eq!(
+        terminal.columns(&good(0xF8E0)),
+        "8000 0C00 0C20 none 0 0003"
+    );
+    assert_eq!(terminal.remembered.status, 0x3810);
 }
 
 #[test]
 fn e21_the_other_block_differs_in_bit_5() {
     for (pointer, other) in [(0x0400, 0x0420), (0x0440, 0x0460)] {
-        let mut bench = circle(pointer, 0x8000);
-        assert_eq!(bench.run(&good(0x2864)).pointer_after, other);
+        let mut terminal = circle(pointer, 0x8000);
+        assert_eq!(terminal.run(&good(0x2864)).pointer_after, other);
         let newest = usize::from(other ^ 0x0020);
-        assert_eq!(bench.ram[newest], 0xA000);
-        assert_eq!(bench.run(&good(0x2864)).pointer_after, pointer);
+        assert_eq!(terminal.ram[newest], 0xA000);
+        assert_eq!(terminal.run(&good(0x2864)).pointer_after, pointer);
     }
 }
 
 #[test]
 fn e23_without_bit_15_the_active_block_stays() {
-    let mut bench = circle(0x0420, 0x0200);
-    assert_eq!(bench.columns(&good(0x2864)), "8000 0420 0420 2800 0 0007");
-    assert_eq!(bench.ram[0x0420], 0xA000);
-    bench.ram[0x01A3] = 0x8200;
-    assert_eq!(bench.columns(&good(0x2864)), "8000 0420 0400 2800 0 0007");
+    let mut terminal = circle(0x0420, 0x0200);
+    assert_eq!(
+        terminal.columns(&good(0x2864)),
+        "8000 0420 0420 2800 0 0007"
+    );
+    assert_eq!(terminal.ram[0x0420], 0xA000);
+    terminal.ram[0x01A3] = 0x8200;
+    assert_eq!(
+        terminal.columns(&good(0x2864)),
+        "8000 0420 0400 2800 0 0007"
+    );
 }
 
 #[test]
@@ -440,42 +497,53 @@ fn e24_messages_in_each_stack() {
         (2048, 0x0800, 512),
     ] {
         let image = [(0x0100, start), (0x0143, 0x0280)];
-        let mut bench = Bench::new(RT5, &image);
-        bench.settings.stack_size = size;
+        let mut terminal = Terminal::new(RT5, &image);
+        terminal.settings.stack_size = size;
         for number in 1..=messages {
-            let wrapped = bench.run(&good(0x2864)).interrupt & 0x0040 != 0;
+            let wrapped = terminal.run(&good(0x2864)).interrupt & 0x0040 != 0;
             assert_eq!(wrapped, number == messages);
             if number == messages - 1 {
-                assert_eq!(bench.ram[0x0100], start + size - 4);
+                assert_eq!(terminal.ram[0x0100], start + size - 4);
             }
         }
-        assert_eq!(bench.ram[0x0100], start);
+        assert_eq!(terminal.ram[0x0100], start);
         let last = usize::from(start + size - 4);
-        assert_eq!(bench.ram[last..last + 4], [0x8000, 0x7A60, 0x0280, 0x2864]);
+        assert_eq!(
+            terminal.ram[last..last + 4],
+            [0x8000, 0x7A60, 0x0280, 0x2864]
+        );
     }
 }
 
 /// E-25 and E-26.
 #[test]
 fn the_stack_keeps_to_its_block_and_leaves_other_words() {
-    let mut bench = Bench::new(RT5, &[(0x0100, 0x05F8), (0x0143, 0x0280)]);
-    bench.ram[0x0500..0x0600].fill(0x7777);
+    let mut terminal = Terminal::new(RT5, &[(0x0100, 0x05F8), (0x0143, 0x0280)]);
+    terminal.ram[0x0500..0x0600].fill(0x7777);
     for pointer in [0x05FC, 0x0500, 0x0504] {
-        bench.run(&good(0x2864));
-        assert_eq!(bench.ram[0x0100], pointer);
+        terminal.run(&good(0x2864));
+        assert_eq!(terminal.ram[0x0100], pointer);
     }
-    assert!(bench.ram[0x0504..0x05F8].iter().all(|&word| word == 0x7777));
-    assert_eq!(bench.ram[0x0600], 0);
+    assert!(terminal.ram[0x0504..0x05F8]
+        .iter()
+        .all(|&word| word == 0x7777));
+    assert_eq!(terminal.ram[0x0600], 0);
 }
 
 #[test]
 fn e28_one_word_legal_two_words_not() {
-    let mut bench = Bench::new(RT5, &[(0x0382, 0x0004), (0x0141, 0x0400)]);
-    assert_eq!(bench.columns(&good(0x2821)), "8000 0400 0400 2800 0 0003");
-    bench.ram[0x0400] = 0;
-    let mut disabled = bench.clone();
-    assert_eq!(bench.columns(&good(0x2822)), "8040 0400 0400 2C00 0 4003");
-    assert_eq!(bench.ram[0x0400..0x0402], [0xA000, 0xA001]);
+    let mut terminal = Terminal::new(RT5, &[(0x0382, 0x0004), (0x0141, 0x0400)]);
+    assert_eq!(
+        terminal.columns(&good(0x2821)),
+        "8000 0400 0400 2800 0 0003"
+    );
+    terminal.ram[0x0400] = 0;
+    let mut disabled = terminal.clone();
+    assert_eq!(
+        terminal.columns(&good(0x2822)),
+        "8040 0400 0400 2C00 0 4003"
+    );
+    assert_eq!(terminal.ram[0x0400..0x0402], [0xA000, 0xA001]);
     disabled.settings.illegal_receive_disable = true;
     assert_eq!(
         disabled.columns(&good(0x2822)),
@@ -486,18 +554,24 @@ fn e28_one_word_legal_two_words_not() {
 
 #[test]
 fn e29_ten_words_legal_nine_not() {
-    let mut bench = Bench::new(RT5, &[(0x0382, 0x0200), (0x0141, 0x0400)]);
-    assert_eq!(bench.run(&good(0x282A)).block_status, 0x8000);
-    assert_eq!(bench.run(&good(0x2829)).block_status, 0x8040);
+    let mut terminal = Terminal::new(RT5, &[(0x0382, 0x0200), (0x0141, 0x0400)]);
+    assert_eq!(terminal.run(&good(0x282A)).block_status, 0x8000);
+    assert_eq!(terminal.run(&good(0x2829)).block_status, 0x8040);
 }
 
 #[test]
 fn e33_broadcast_transmit_may_be_illegal_too() {
-    let mut bench = Bench::new(RT5, &[(0x0163, 0x0400)]);
-    assert_eq!(bench.columns(&good(0xFC64)), "9401 0400 0400 none 0 0013");
-    assert_eq!(bench.remembered.status, 0x2C10);
-    bench.ram[0x0346] = 0x0010;
-    assert_eq!(bench.columns(&good(0xFC64)), "9441 0400 0400 none 0 4013");
+    let mut terminal = Terminal::new(RT5, &[(0x0163, 0x0400)]);
+    assert_eq!(
+        terminal.columns(&good(0xFC64)),
+        "9401 0400 0400 none 0 0013"
+    );
+    assert_eq!(terminal.remembered.status, 0x2C10);
+    terminal.ram[0x0346] = 0x0010;
+    assert_eq!(
+        terminal.columns(&good(0xFC64)),
+        "9441 0400 0400 none 0 4013"
+    );
 }
 
 /// E-36: the scope's formula, not the makers', places own and broadcast.
@@ -522,11 +596,17 @@ fn e37_busy_subaddress() {
         (0x0143, 0x0400),
         (0x0163, 0x0500),
     ];
-    let mut bench = Bench::new(RT5, &image);
-    let mut disabled = bench.clone();
-    assert_eq!(bench.columns(&good(0x2864)), "8000 0400 0400 2808 0 0003");
-    assert_eq!(bench.ram[0x0400], 0xA000);
-    assert_eq!(bench.columns(&good(0x2C64)), "8000 0500 0500 2808 0 0003");
+    let mut terminal = Terminal::new(RT5, &image);
+    let mut disabled = terminal.clone();
+    assert_eq!(
+        terminal.columns(&good(0x2864)),
+        "8000 0400 0400 2808 0 0003"
+    );
+    assert_eq!(terminal.ram[0x0400], 0xA000);
+    assert_eq!(
+        terminal.columns(&good(0x2C64)),
+        "8000 0500 0500 2808 0 0003"
+    );
 
     disabled.settings.busy_receive_disable = true;
     assert_eq!(
@@ -546,20 +626,20 @@ fn table_of_faults() {
         (0, 2, 0x9420),
         (0, 5, 0x9420),
     ] {
-        let mut bench = Bench::new(RT5, &[(0x0143, 0x0400)]);
+        let mut terminal = Terminal::new(RT5, &[(0x0143, 0x0400)]);
         let expected = format!("{block_status:04X} 0400 0400 none 0 0013");
-        assert_eq!(bench.columns(&heard(0x2864, count, flags)), expected);
-        assert_eq!(bench.remembered.status, 0x2C00);
+        assert_eq!(terminal.columns(&heard(0x2864, count, flags)), expected);
+        assert_eq!(terminal.remembered.status, 0x2C00);
         let stored = usize::from(count.min(4));
         assert_eq!(
-            bench.ram[0x0400..0x0400 + stored],
+            terminal.ram[0x0400..0x0400 + stored],
             numbered_words(0xA000, stored)
         );
-        assert_eq!(bench.ram[0x0400 + stored], 0);
+        assert_eq!(terminal.ram[0x0400 + stored], 0);
     }
-    let mut bench = Bench::new(RT5, &[(0x0143, 0x0400)]);
+    let mut terminal = Terminal::new(RT5, &[(0x0143, 0x0400)]);
     assert_eq!(
-        bench.columns(&heard(0x2864, 4, FLAG_BUS_B)),
+        terminal.columns(&heard(0x2864, 4, FLAG_BUS_B)),
         "A000 0400 0400 2800 0 0003"
     );
 }

@@ -3,8 +3,8 @@
 use std::fs;
 use std::path::{Path, PathBuf};
 
-use bench_side::terminal::trace_output;
-use bench_side::text::{pack, trace_with_changes};
+use plain_terminal::terminal::trace_output;
+use plain_terminal::text::{pack, trace_with_changes};
 
 /// Every text of a folder of samples.
 fn samples(folder: &str) -> Vec<PathBuf> {

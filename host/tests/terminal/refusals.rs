@@ -1,34 +1,34 @@
 //! The numbers that refuse: both sides of each, their order, and that a
 //! refusal leaves everything as it was.
 
-use bench_side::terminal::{write_record, Answer, Record, Remembered, Settings};
+use plain_terminal::terminal::{write_record, Answer, Record, Remembered, Settings};
 
-use crate::helpers::{good, Bench, Random};
+use crate::helpers::{good, Random, Terminal};
 
 /// Everything a message is given, ready to be spoiled.
 #[derive(Clone)]
 struct Given {
-    bench: Bench,
+    terminal: Terminal,
     bytes: Vec<u8>,
 }
 
 impl Given {
     /// A message that is accepted.
     fn sound() -> Given {
-        let mut bench = Bench::with_circle(0x047E);
-        bench.remembered = Remembered {
+        let mut terminal = Terminal::with_circle(0x047E);
+        terminal.remembered = Remembered {
             command: 0x1234,
             status: 0x5678,
         };
         Given {
-            bench,
+            terminal,
             bytes: write_record(&good(0x2864)).unwrap().to_vec(),
         }
     }
 
     /// The number, after making sure that a refusal changes nothing.
     fn number(&self) -> u16 {
-        let mut after = self.bench.clone();
+        let mut after = self.terminal.clone();
         let answer = after.run_bytes(&self.bytes);
         if answer.number != 0 {
             let refused = Answer {
@@ -36,7 +36,7 @@ impl Given {
                 ..Answer::default()
             };
             assert_eq!(answer, refused);
-            assert_eq!(after, self.bench);
+            assert_eq!(after, self.terminal);
         }
         answer.number
     }
@@ -44,9 +44,9 @@ impl Given {
 
 /// For each number from 1 on, one way to bring it about.
 const SPOILERS: [fn(&mut Given); 9] = [
-    |given| given.bench.ram.push(0),
-    |given| given.bench.reply.truncate(32),
-    |given| given.bench.settings.stack_size = 300,
+    |given| given.terminal.ram.push(0),
+    |given| given.terminal.reply.truncate(32),
+    |given| given.terminal.settings.stack_size = 300,
     |given| given.bytes.truncate(79),
     |given| given.bytes[2] = 1,
     |given| given.bytes[0] = given.bytes[0] & 0x07 | 6 << 3,
@@ -54,8 +54,8 @@ const SPOILERS: [fn(&mut Given); 9] = [
         given.bytes[0] &= 0xFC;
         given.bytes[1] &= 0x1F;
     },
-    |given| given.bench.ram[0x0100] = 0x0200,
-    |given| given.bench.ram[0x0143] = 0x0300,
+    |given| given.terminal.ram[0x0100] = 0x0200,
+    |given| given.terminal.ram[0x0143] = 0x0300,
 ];
 
 #[test]
@@ -96,7 +96,7 @@ fn all_at_once_and_mended_one_by_one() {
 fn ram_length() {
     for (length, number) in [(0, 1), (4095, 1), (4096, 0), (4097, 1), (65536, 1)] {
         let mut given = Given::sound();
-        given.bench.ram.resize(length, 0);
+        given.terminal.ram.resize(length, 0);
         assert_eq!(given.number(), number, "{length}");
     }
 }
@@ -105,7 +105,7 @@ fn ram_length() {
 fn reply_length() {
     for (length, number) in [(0, 2), (32, 2), (33, 0), (34, 0), (1000, 0)] {
         let mut given = Given::sound();
-        given.bench.reply.resize(length, 0);
+        given.terminal.reply.resize(length, 0);
         assert_eq!(given.number(), number, "{length}");
     }
 }
@@ -114,7 +114,7 @@ fn reply_length() {
 fn rt_address() {
     for (address, number) in [(5, 0), (30, 6), (31, 3), (32, 3), (0xFFFF, 3)] {
         let mut given = Given::sound();
-        given.bench.settings.address = address;
+        given.terminal.settings.address = address;
         assert_eq!(given.number(), number, "{address}");
     }
 }
@@ -135,8 +135,8 @@ fn stack_size() {
         (0xFFFF, 3),
     ] {
         let mut given = Given::sound();
-        given.bench.settings.stack_size = size;
-        given.bench.ram[0x0100] = 0x0800;
+        given.terminal.settings.stack_size = size;
+        given.terminal.ram[0x0100] = 0x0800;
         assert_eq!(given.number(), number, "{size}");
     }
     let accepted = (0..=u16::MAX).filter(|&stack_size| {
@@ -187,10 +187,10 @@ fn record_values_are_tested_for_their_layout_too() {
     let run = |change: fn(&mut Record)| {
         let mut record = good(0x2864);
         change(&mut record);
-        let mut bench = Bench::with_circle(0x047E);
-        let before = bench.clone();
-        let answer = bench.run_value(&record);
-        assert_eq!(bench == before, answer.number != 0);
+        let mut terminal = Terminal::with_circle(0x047E);
+        let before = terminal.clone();
+        let answer = terminal.run_value(&record);
+        assert_eq!(terminal == before, answer.number != 0);
         answer.number
     };
     assert_eq!(run(|_| ()), 0);
@@ -210,21 +210,21 @@ fn record_values_come_after_what_is_lent() {
         count: 34,
         ..good(0x2864)
     };
-    let mut bench = Bench::with_circle(0x047E);
-    assert_eq!(bench.run_value(&broken).number, 5);
-    bench.settings.address = 31;
-    assert_eq!(bench.run_value(&broken).number, 3);
-    bench.reply.truncate(32);
-    assert_eq!(bench.run_value(&broken).number, 2);
-    bench.ram.truncate(4095);
-    assert_eq!(bench.run_value(&broken).number, 1);
+    let mut terminal = Terminal::with_circle(0x047E);
+    assert_eq!(terminal.run_value(&broken).number, 5);
+    terminal.settings.address = 31;
+    assert_eq!(terminal.run_value(&broken).number, 3);
+    terminal.reply.truncate(32);
+    assert_eq!(terminal.run_value(&broken).number, 2);
+    terminal.ram.truncate(4095);
+    assert_eq!(terminal.run_value(&broken).number, 1);
 }
 
 #[test]
 fn other_addresses() {
     for address in 0..=31 {
-        let mut bench = Bench::with_circle(0x047E);
-        let answer = bench.run(&good(address << 11 | 0x0064));
+        let mut terminal = Terminal::with_circle(0x047E);
+        let answer = terminal.run(&good(address << 11 | 0x0064));
         let expected = if matches!(address, 5 | 31) { 0 } else { 6 };
         assert_eq!(answer.number, expected, "RT {address}");
     }
@@ -234,9 +234,9 @@ fn other_addresses() {
 fn subaddresses() {
     for sub in 0..=31 {
         for transmit in [0x0000, 0x0400] {
-            let mut bench = Bench::new(Settings::TRACE, &[]);
-            bench.ram[0x0140..0x01A0].fill(0x0400);
-            let answer = bench.run(&good(0x2804 | transmit | sub << 5));
+            let mut terminal = Terminal::new(Settings::TRACE, &[]);
+            terminal.ram[0x0140..0x01A0].fill(0x0400);
+            let answer = terminal.run(&good(0x2804 | transmit | sub << 5));
             let expected = if matches!(sub, 0 | 31) { 7 } else { 0 };
             assert_eq!(answer.number, expected, "SA {sub}");
         }
@@ -245,17 +245,17 @@ fn subaddresses() {
 
 #[test]
 fn address_before_subaddress() {
-    let mut bench = Bench::with_circle(0x047E);
-    assert_eq!(bench.run(&good(0x3000)).number, 6);
-    assert_eq!(bench.run(&good(0x2800)).number, 7);
-    assert_eq!(bench.run(&good(0xF800)).number, 7);
+    let mut terminal = Terminal::with_circle(0x047E);
+    assert_eq!(terminal.run(&good(0x3000)).number, 6);
+    assert_eq!(terminal.run(&good(0x2800)).number, 7);
+    assert_eq!(terminal.run(&good(0xF800)).number, 7);
 }
 
 #[test]
 fn stack_and_cell() {
     let number = |stack: u16, pointer: u16, control: u16| {
         let image = [(0x0100, stack), (0x0143, pointer), (0x01A3, control)];
-        Bench::new(Settings::TRACE, &image)
+        Terminal::new(Settings::TRACE, &image)
             .run(&good(0x2864))
             .number
     };
@@ -272,41 +272,41 @@ fn stack_and_cell() {
 
 #[test]
 fn only_the_messages_own_cell_is_tested() {
-    let mut bench = Bench::with_circle(0x047E);
-    assert_eq!(bench.ram[0x0163], 0x0000);
-    assert_eq!(bench.run(&good(0x2C64)).number, 9);
-    assert_eq!(bench.run(&good(0x2864)).number, 0);
+    let mut terminal = Terminal::with_circle(0x047E);
+    assert_eq!(terminal.ram[0x0163], 0x0000);
+    assert_eq!(terminal.run(&good(0x2C64)).number, 9);
+    assert_eq!(terminal.run(&good(0x2864)).number, 0);
     // A message that would move no word is tested all the same.
-    bench.settings.busy_always = true;
-    assert_eq!(bench.run(&good(0x2C64)).number, 9);
+    terminal.settings.busy_always = true;
+    assert_eq!(terminal.run(&good(0x2C64)).number, 9);
     // Broadcast without separation goes to the receive cell.
-    assert_eq!(bench.run(&good(0xF864)).number, 0);
-    bench.settings.separate_broadcast = true;
-    assert_eq!(bench.run(&good(0xF864)).number, 9);
+    assert_eq!(terminal.run(&good(0xF864)).number, 0);
+    terminal.settings.separate_broadcast = true;
+    assert_eq!(terminal.run(&good(0xF864)).number, 9);
 }
 
 #[test]
 fn no_other_case_is_refused() {
     let mut random = Random::new(5);
     for _ in 0..5_000 {
-        let mut bench = Bench::new(random.settings(), &[]);
-        bench.ram[0x0100] = 0x0800;
-        bench.ram[0x0104] = 0x0800;
-        bench.ram[0x0140..0x01A0].fill(0x0400);
-        bench.ram[0x01C0..0x0220].fill(0x0400);
+        let mut terminal = Terminal::new(random.settings(), &[]);
+        terminal.ram[0x0100] = 0x0800;
+        terminal.ram[0x0104] = 0x0800;
+        terminal.ram[0x0140..0x01A0].fill(0x0400);
+        terminal.ram[0x01C0..0x0220].fill(0x0400);
         for place in (0x0240..0x0248).chain(0x0300..0x0400) {
-            bench.ram[place] = random.word();
+            terminal.ram[place] = random.word();
         }
-        let record = random.record(bench.settings.address);
+        let record = random.record(terminal.settings.address);
         let address = record.command >> 11;
         let sub = record.command >> 5 & 31;
-        let expected = if address != bench.settings.address && address != 31 {
+        let expected = if address != terminal.settings.address && address != 31 {
             6
         } else if sub == 0 || sub == 31 {
             7
         } else {
             0
         };
-        assert_eq!(bench.run(&record).number, expected);
+        assert_eq!(terminal.run(&record).number, expected);
     }
 }

@@ -1,13 +1,13 @@
 //! The comparison can fail: it tells every planted error from a good terminal,
 //! and makes the case small and readable.
 
-use bench_side::compare::coverage::Coverage;
-use bench_side::compare::replay::{read_case, write_case};
-use bench_side::compare::shrink::shrink;
-use bench_side::compare::traces::{long_trace, random_trace, shrink_trace};
-use bench_side::compare::{compare, Case, Plain};
-use bench_side::terminal::trace::planted_trace_output;
-use bench_side::terminal::{trace_output, Planted};
+use plain_terminal::compare::coverage::Coverage;
+use plain_terminal::compare::replay::{read_case, write_case};
+use plain_terminal::compare::shrink::shrink;
+use plain_terminal::compare::traces::{long_trace, random_trace, shrink_trace};
+use plain_terminal::compare::{compare, Case, Plain};
+use plain_terminal::terminal::trace::planted_trace_output;
+use plain_terminal::terminal::{trace_output, Planted};
 
 const GOOD: Plain = Plain(Planted::None);
 
@@ -33,7 +33,7 @@ fn every_class_occurs_and_nothing_differs() {
 fn every_planted_error_is_caught() {
     for planted in Planted::ERRORS {
         let case = caught(planted);
-        let words = case.bench.ram.iter().filter(|&&word| word != 0).count();
+        let words = case.state.ram.iter().filter(|&&word| word != 0).count();
         assert!(words <= 4, "{}:\n{}", planted.name(), write_case(&case));
         let lines = case.differences(&Plain(planted), &GOOD);
         assert!(!lines.is_empty());

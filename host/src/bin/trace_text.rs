@@ -7,16 +7,16 @@ use std::fs;
 use std::io::{self, Read, Write};
 use std::process::ExitCode;
 
-use bench_side::text::{pack, unpack};
+use plain_terminal::text::{pack, unpack};
 
-const USAGE: &str = "usage: bench_text pack [FILE] or bench_text unpack [FILE]";
+const USAGE: &str = "usage: trace_text pack [FILE] or trace_text unpack [FILE]";
 
 fn main() -> ExitCode {
     let arguments: Vec<OsString> = env::args_os().skip(1).collect();
     match convert(&arguments).and_then(|output| write_output(&output)) {
         Ok(()) => ExitCode::SUCCESS,
         Err(error) => {
-            eprintln!("bench_text: {error}");
+            eprintln!("trace_text: {error}");
             ExitCode::FAILURE
         }
     }

@@ -1,7 +1,7 @@
 //! Command words and message records.
 
-use bench_side::terminal::words::Command;
-use bench_side::terminal::{read_record, write_record, Record};
+use plain_terminal::terminal::words::Command;
+use plain_terminal::terminal::{read_record, write_record, Record};
 
 use crate::helpers::{good, heard, record, Random};
 

@@ -2,8 +2,8 @@
 
 use std::io::{self, Read};
 
-use bench_side::terminal::trace::TraceView;
-use bench_side::terminal::{stream_trace, trace_output, write_record};
+use plain_terminal::terminal::trace::TraceView;
+use plain_terminal::terminal::{stream_trace, trace_output, write_record};
 
 use crate::helpers::{good, heard, Random};
 

@@ -7,7 +7,7 @@ use std::thread;
 use crate::trace::{example_input, EXAMPLE_OUTPUT};
 
 const TRACE: &str = env!("CARGO_BIN_EXE_trace_rust");
-const TEXT: &str = env!("CARGO_BIN_EXE_bench_text");
+const TEXT: &str = env!("CARGO_BIN_EXE_trace_text");
 const COMPARE_TRACES: &str = env!("CARGO_BIN_EXE_compare_traces");
 
 fn run(program: &str, arguments: &[&str], input: &[u8]) -> Output {
@@ -59,11 +59,11 @@ fn text_comes_from_a_file_too() {
 fn errors_end_with_status_1() {
     let missing = "no such file";
     let cases: [(&[&str], &str); 5] = [
-        (&["pack"], "bench_text: line 2: found \"rom\", expected"),
-        (&["pack", missing], "bench_text: no such file: "),
-        (&[], "bench_text: usage: "),
-        (&["print"], "bench_text: usage: "),
-        (&["pack", "a", "b"], "bench_text: usage: "),
+        (&["pack"], "trace_text: line 2: found \"rom\", expected"),
+        (&["pack", missing], "trace_text: no such file: "),
+        (&[], "trace_text: usage: "),
+        (&["print"], "trace_text: usage: "),
+        (&["pack", "a", "b"], "trace_text: usage: "),
     ];
     for (arguments, message) in cases {
         let output = run(TEXT, arguments, b"ram 0 1\nrom 0 1\n");

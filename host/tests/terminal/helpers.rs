@@ -1,9 +1,9 @@
-//! A small bench to run messages on, and plain ways to write records.
+//! A terminal to run messages on, and plain ways to write records.
 
-pub use bench_side::random::Random;
-use bench_side::terminal::records::RECORD_WORDS;
-use bench_side::terminal::words::Command;
-use bench_side::terminal::{
+pub use plain_terminal::random::Random;
+use plain_terminal::terminal::records::RECORD_WORDS;
+use plain_terminal::terminal::words::Command;
+use plain_terminal::terminal::{
     message_from_bytes, message_from_record, write_record, Answer, Record, Remembered, Settings,
 };
 
@@ -12,20 +12,20 @@ pub const UNTOUCHED: u16 = 0xEEEE;
 
 /// A terminal with everything it is lent.
 #[derive(Clone, Debug, PartialEq)]
-pub struct Bench {
+pub struct Terminal {
     pub ram: Vec<u16>,
     pub reply: Vec<u16>,
     pub settings: Settings,
     pub remembered: Remembered,
 }
 
-impl Bench {
-    pub fn new(settings: Settings, image: &[(usize, u16)]) -> Bench {
+impl Terminal {
+    pub fn new(settings: Settings, image: &[(usize, u16)]) -> Terminal {
         let mut ram = vec![0; 4096];
         for &(address, word) in image {
             ram[address] = word;
         }
-        Bench {
+        Terminal {
             ram,
             reply: vec![UNTOUCHED; 40],
             settings,
@@ -33,9 +33,9 @@ impl Bench {
         }
     }
 
-    /// The bench of the edges: RT 5, SA 3 circular with 128 words.
-    pub fn with_circle(pointer: u16) -> Bench {
-        Bench::new(Settings::TRACE, &[(0x0143, pointer), (0x01A3, 0x0120)])
+    /// The terminal of the edges: RT 5, SA 3 circular with 128 words.
+    pub fn with_circle(pointer: u16) -> Terminal {
+        Terminal::new(Settings::TRACE, &[(0x0143, pointer), (0x01A3, 0x0120)])
     }
 
     /// Carries out a record, by its bytes and by its value, which must agree.

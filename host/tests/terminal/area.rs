@@ -1,14 +1,14 @@
 //! Cells, the stack and the whole-area check.
 
-use bench_side::terminal::cells::{Cell, Kind, Scheme, Stack};
-use bench_side::terminal::{check_area, Settings};
+use plain_terminal::terminal::cells::{Cell, Kind, Scheme, Stack};
+use plain_terminal::terminal::{check_area, Settings};
 
-use crate::helpers::{good, Bench, Random};
+use crate::helpers::{good, Random, Terminal};
 
 const RT5: Settings = Settings::TRACE;
 
 fn cell(kind: Kind, control: u16, pointer: u16) -> Cell {
-    let bench = Bench::new(
+    let terminal = Terminal::new(
         RT5,
         &[
             (0x0143, pointer),
@@ -17,13 +17,13 @@ fn cell(kind: Kind, control: u16, pointer: u16) -> Cell {
             (0x01A3, control),
         ],
     );
-    Cell::read(&bench.ram, &RT5, kind, 3)
+    Cell::read(&terminal.ram, &RT5, kind, 3)
 }
 
 /// Whether a receive cell is sound beside a stack of 256 words at `stack`.
 fn is_sound_beside(stack: u16, control: u16, pointer: u16) -> bool {
-    let bench = Bench::new(RT5, &[(0x0100, stack)]);
-    let stack = Stack::read(&bench.ram, &RT5);
+    let terminal = Terminal::new(RT5, &[(0x0100, stack)]);
+    let stack = Stack::read(&terminal.ram, &RT5);
     cell(Kind::Receive, control, pointer).is_sound(4096, &stack)
 }
 
@@ -36,16 +36,16 @@ fn stack_is_sound(size: u16, pointer: u16) -> bool {
         stack_size: size,
         ..RT5
     };
-    let bench = Bench::new(settings, &[(0x0100, pointer)]);
-    Stack::read(&bench.ram, &settings).is_sound(4096)
+    let terminal = Terminal::new(settings, &[(0x0100, pointer)]);
+    Stack::read(&terminal.ram, &settings).is_sound(4096)
 }
 
 /// RAM in which every cell is single at 0400.
-fn sound_bench(settings: Settings) -> Bench {
-    let mut bench = Bench::new(settings, &[]);
-    bench.ram[0x0140..0x01A0].fill(0x0400);
-    bench.ram[0x01C0..0x0220].fill(0x0400);
-    bench
+fn sound_terminal(settings: Settings) -> Terminal {
+    let mut terminal = Terminal::new(settings, &[]);
+    terminal.ram[0x0140..0x01A0].fill(0x0400);
+    terminal.ram[0x01C0..0x0220].fill(0x0400);
+    terminal
 }
 
 #[test]
@@ -125,14 +125,17 @@ fn cell_numbers() {
 
 #[test]
 fn areas_have_their_own_tables() {
-    let mut bench = Bench::new(RT5, &[(0x01C3, 0x0500), (0x0223, 0x0320)]);
-    bench.settings.area_b = true;
-    let cell = Cell::read(&bench.ram, &bench.settings, Kind::Receive, 3);
+    let mut terminal = Terminal::new(RT5, &[(0x01C3, 0x0500), (0x0223, 0x0320)]);
+    terminal.settings.area_b = true;
+    let cell = Cell::read(&terminal.ram, &terminal.settings, Kind::Receive, 3);
     assert_eq!(cell.pointer, 0x0500);
     assert_eq!(cell.scheme, Scheme::Circular(128));
     assert!(cell.message_interrupt && cell.circular_interrupt);
-    bench.ram[0x0104] = 0x0800;
-    assert_eq!(Stack::read(&bench.ram, &bench.settings).pointer, 0x0800);
+    terminal.ram[0x0104] = 0x0800;
+    assert_eq!(
+        Stack::read(&terminal.ram, &terminal.settings).pointer,
+        0x0800
+    );
 }
 
 #[test]
@@ -232,10 +235,10 @@ fn cells_keep_clear_of_the_active_stack() {
 
 #[test]
 fn the_other_areas_stack_does_not_count() {
-    let mut bench = Bench::new(RT5, &[(0x0104, 0x0400), (0x0143, 0x0400)]);
-    assert_eq!(bench.run(&good(0x2864)).number, 0);
-    bench.ram[0x0100] = 0x0400;
-    assert_eq!(bench.run(&good(0x2864)).number, 9);
+    let mut terminal = Terminal::new(RT5, &[(0x0104, 0x0400), (0x0143, 0x0400)]);
+    assert_eq!(terminal.run(&good(0x2864)).number, 0);
+    terminal.ram[0x0100] = 0x0400;
+    assert_eq!(terminal.run(&good(0x2864)).number, 9);
 }
 
 #[test]
@@ -282,8 +285,8 @@ fn a_sound_area() {
                 separate_broadcast,
                 ..RT5
             };
-            let bench = sound_bench(settings);
-            assert_eq!(check_area(&bench.ram, &settings), (0, 0));
+            let terminal = sound_terminal(settings);
+            assert_eq!(check_area(&terminal.ram, &settings), (0, 0));
         }
     }
 }
@@ -294,15 +297,15 @@ fn the_lowest_unsound_cell_is_named() {
         separate_broadcast: true,
         ..RT5
     };
-    let mut bench = sound_bench(settings);
+    let mut terminal = sound_terminal(settings);
     for number in [94, 65, 62, 33, 30, 2, 1] {
-        bench.ram[0x0140 + number] = 0x0FE1;
-        assert_eq!(check_area(&bench.ram, &settings), (9, number as u16));
+        terminal.ram[0x0140 + number] = 0x0FE1;
+        assert_eq!(check_area(&terminal.ram, &settings), (9, number as u16));
     }
-    let mut bench = sound_bench(settings);
-    bench.ram[0x0140 + 94] = 0x0FE1;
+    let mut terminal = sound_terminal(settings);
+    terminal.ram[0x0140 + 94] = 0x0FE1;
     settings.separate_broadcast = false;
-    assert_eq!(check_area(&bench.ram, &settings), (0, 0));
+    assert_eq!(check_area(&terminal.ram, &settings), (0, 0));
 }
 
 #[test]
@@ -311,28 +314,28 @@ fn subaddresses_0_and_31_are_not_looked_at() {
         separate_broadcast: true,
         ..RT5
     };
-    let mut bench = sound_bench(settings);
+    let mut terminal = sound_terminal(settings);
     for number in [0, 31, 32, 63, 64, 95] {
-        bench.ram[0x0140 + number] = 0xFFFF;
+        terminal.ram[0x0140 + number] = 0xFFFF;
     }
-    bench.ram[0x01A0] = 0xFFFF;
-    bench.ram[0x01BF] = 0xFFFF;
-    assert_eq!(check_area(&bench.ram, &settings), (0, 0));
+    terminal.ram[0x01A0] = 0xFFFF;
+    terminal.ram[0x01BF] = 0xFFFF;
+    assert_eq!(check_area(&terminal.ram, &settings), (0, 0));
 }
 
 #[test]
 fn area_refusals_and_their_order() {
-    let mut bench = sound_bench(RT5);
+    let mut terminal = sound_terminal(RT5);
     let mut settings = RT5;
-    bench.ram[0x0141] = 0x0FE1;
-    assert_eq!(check_area(&bench.ram, &settings), (9, 1));
-    bench.ram[0x0100] = 0x0200;
-    assert_eq!(check_area(&bench.ram, &settings), (8, 0));
+    terminal.ram[0x0141] = 0x0FE1;
+    assert_eq!(check_area(&terminal.ram, &settings), (9, 1));
+    terminal.ram[0x0100] = 0x0200;
+    assert_eq!(check_area(&terminal.ram, &settings), (8, 0));
     settings.address = 31;
-    assert_eq!(check_area(&bench.ram, &settings), (3, 0));
-    assert_eq!(check_area(&bench.ram[..4095], &settings), (1, 0));
-    bench.ram.push(0);
-    assert_eq!(check_area(&bench.ram, &settings), (1, 0));
+    assert_eq!(check_area(&terminal.ram, &settings), (3, 0));
+    assert_eq!(check_area(&terminal.ram[..4095], &settings), (1, 0));
+    terminal.ram.push(0);
+    assert_eq!(check_area(&terminal.ram, &settings), (1, 0));
     assert_eq!(check_area(&[], &settings), (1, 0));
 }
 

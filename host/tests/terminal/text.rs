@@ -1,8 +1,8 @@
 //! Traces as text: the lines, their errors, and that nothing is lost.
 
-use bench_side::terminal::records::{FLAG_BUS_B, FLAG_INVALID_WORD, FLAG_WRONG_SYNC};
-use bench_side::terminal::{trace_output, write_record, Record};
-use bench_side::text::{pack, unpack};
+use plain_terminal::terminal::records::{FLAG_BUS_B, FLAG_INVALID_WORD, FLAG_WRONG_SYNC};
+use plain_terminal::terminal::{trace_output, write_record, Record};
+use plain_terminal::text::{pack, unpack};
 
 use crate::helpers::{heard, record, Random};
 use crate::trace::{image, EXAMPLE_OUTPUT};

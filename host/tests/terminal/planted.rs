@@ -1,0 +1,126 @@
+//! Each planted error shows where it should, and only there.
+
+use plain_terminal::terminal::message::planted_message;
+use plain_terminal::terminal::trace::planted_trace_output;
+use plain_terminal::terminal::{trace_output, write_record, Answer, Planted, Record};
+
+use crate::helpers::{good, heard, Random, Terminal};
+use crate::trace::example_image;
+
+fn run(planted: Planted, terminal: &mut Terminal, record: &Record) -> Answer {
+    let (answer, remembered) = planted_message(
+        planted,
+        &mut terminal.ram,
+        &mut terminal.reply,
+        &terminal.settings,
+        terminal.remembered,
+        &write_record(record).unwrap(),
+    );
+    terminal.remembered = remembered;
+    answer
+}
+
+#[test]
+fn the_pointer_after_in_the_descriptor() {
+    let mut terminal = Terminal::with_circle(0x047E);
+    let planted = Planted::PointerAfterInDescriptor;
+    let answer = run(planted, &mut terminal, &good(0x2864));
+    assert_eq!(terminal.ram[2], 0x0402);
+    assert_eq!(answer, Terminal::with_circle(0x047E).run(&good(0x2864)));
+}
+
+#[test]
+fn rollover_although_kept_back() {
+    let mut terminal = Terminal::with_circle(0x047E);
+    let planted = Planted::RolloverWhenKeptBack;
+    let answer = run(planted, &mut terminal, &heard(0x2864, 2, 0));
+    assert_eq!(answer.block_status, 0x94A0);
+    assert_eq!(answer.pointer_after, 0x047E);
+    assert_eq!(answer.interrupt, 0x0413);
+}
+
+#[test]
+fn wrapping_by_the_word_count() {
+    let mut terminal = Terminal::with_circle(0x047E);
+    let planted = Planted::WrapByWordCount;
+    run(planted, &mut terminal, &good(0x2864));
+    let words = [0xA000, 0xA001, 0xA002, 0xA003];
+    assert_eq!(terminal.ram[0x047E..0x0482], words);
+    assert_eq!(terminal.ram[0x0400], 0);
+}
+
+/// The error has to stay harmless where the next window is past the RAM.
+#[test]
+fn wrapping_by_the_word_count_at_the_end_of_ram() {
+    let mut terminal = Terminal::with_circle(0x0FFE);
+    terminal.ram[0x0100] = 0x0400;
+    let answer = run(Planted::WrapByWordCount, &mut terminal, &good(0x2864));
+    assert_eq!(answer.number, 0);
+    assert_eq!(terminal.ram[0x0FFE..], [0xA000, 0xA001]);
+    assert_eq!(terminal.ram[..2], [0xA002, 0xA003]);
+}
+
+#[test]
+fn a_faulty_message_stores_where_it_is_disabled() {
+    let mut terminal = Terminal::with_circle(0x0400);
+    terminal.ram[0x0386] = 0x0010;
+    terminal.settings.illegal_receive_disable = true;
+    let planted = Planted::FaultyStoresWhenDisabled;
+    run(planted, &mut terminal, &good(0x2864));
+    assert_eq!(terminal.ram[0x0400], 0);
+    run(planted, &mut terminal, &heard(0x2864, 2, 0));
+    assert_eq!(terminal.ram[0x0400..0x0403], [0xA000, 0xA001, 0]);
+}
+
+#[test]
+fn count_field_0_as_no_words() {
+    let mut terminal = Terminal::with_circle(0x0400);
+    let planted = Planted::ZeroCountIsNone;
+    let answer = run(planted, &mut terminal, &good(0x2860));
+    assert_eq!(answer.block_status, 0x9420);
+    assert_eq!(terminal.ram[0x0400], 0);
+    assert_eq!(
+        run(planted, &mut terminal, &good(0x2864)).block_status,
+        0x8000
+    );
+}
+
+/// A comparison over random messages tells every planted error from a good
+/// terminal, and finds nothing where none is planted.
+#[test]
+fn a_comparison_can_fail() {
+    let differs = |planted| {
+        let mut random = Random::new(8);
+        (0..2_000).any(|_| {
+            let mut good_terminal = Terminal::with_circle(random.word() & 0x007F | 0x0400);
+            good_terminal.settings = random.settings();
+            good_terminal.settings.area_b = false;
+            good_terminal.settings.stack_size = 256;
+            good_terminal.ram[0x0386] = random.word();
+            let mut terminal = good_terminal.clone();
+            let command = good_terminal.settings.address << 11 | 0x0060 | random.word() & 31;
+            let record = heard(command, random.below(34) as u16, 0);
+            run(planted, &mut terminal, &record) != good_terminal.run(&record)
+                || terminal != good_terminal
+        })
+    };
+    assert!(!differs(Planted::None));
+    for planted in Planted::ERRORS {
+        assert!(differs(planted), "{planted:?}");
+    }
+}
+
+#[test]
+fn traces_can_be_planted_too() {
+    let mut input = example_image();
+    input.extend(write_record(&heard(0x2864, 2, 0)).unwrap());
+    input.extend(write_record(&good(0x2860)).unwrap());
+    let good_output = trace_output(&input);
+    let output = |planted| planted_trace_output(planted, &input);
+    assert_eq!(output(Planted::None), good_output);
+    assert_ne!(output(Planted::RolloverWhenKeptBack), good_output);
+    assert_ne!(output(Planted::ZeroCountIsNone), good_output);
+    // These two show in RAM only, which the trace does not print.
+    assert_eq!(output(Planted::PointerAfterInDescriptor), good_output);
+    assert_eq!(output(Planted::WrapByWordCount), good_output);
+}
