@@ -27,6 +27,7 @@ isRead s number =
 unfoldable pub cellNumbered : List ℕ → Settings → ℕ → Cell
 cellNumbered ram s number = cellAt ram (s .area) (kindNumbered number) (number % 32)
 
+-- a cell that is read and not sound
 unfoldable pub isUnsound : List ℕ → Settings → Window → ℕ → Bool
 isUnsound ram s stack number = isRead s number && not (soundCell (length ram) stack (cellNumbered ram s number))
 
@@ -39,6 +40,7 @@ unfoldable pub lowest : (ℕ → Bool) → ℕ → ℕ
 lowest bad zero = 0
 lowest bad (suc n) = orElse (lowest bad n) (bad n) n
 
+-- "the lowest unsound cell number"
 unfoldable pub lowestUnsound : List ℕ → Settings → ℕ
 lowestUnsound ram s = lowest (isUnsound ram s (stackWindow ram s)) 96
 
@@ -60,6 +62,7 @@ groundsWith ram s unsound =
 unfoldable pub areaGrounds : List ℕ → Settings → Grounds
 areaGrounds ram s = groundsWith ram s (not (eqb (lowestUnsound ram s) 0))
 
+-- "the first of 1, 3, 8, or 9"
 unfoldable pub areaRefusal : List ℕ → Settings → ℕ
 areaRefusal ram s = firstRefusal (areaGrounds ram s)
 
@@ -67,6 +70,7 @@ areaRefusal ram s = firstRefusal (areaGrounds ram s)
 unfoldable pub refusedBefore : List ℕ → Settings → ℕ
 refusedBefore ram s = firstRefusal (groundsWith ram s false)
 
+-- "only the whole-area check adds a cell number, to 9"
 unfoldable pub checkArea : List ℕ → Settings → Checked
 checkArea ram s =
     record { number = areaRefusal ram s; cell = cond (eqb (areaRefusal ram s) 9) (lowestUnsound ram s) 0 }

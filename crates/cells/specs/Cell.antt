@@ -37,6 +37,7 @@ doublesKind Broadcast = true
 unfoldable pub pickScheme : ℕ → Bool → Scheme
 pickScheme m double = cond (eqb m 0) (cond double Double Single) (Circular (sizeOf m))
 
+-- the scheme that a control word gives a cell of this kind; bit 15 doubles, "not transmit"
 unfoldable pub schemeOf : ℕ → Kind → Scheme
 schemeOf control kind = pickScheme (controlPart control kind % 8) (eqb (control / 32768) 1 && doublesKind kind)
 
@@ -65,6 +66,7 @@ doubleFits Single pointer = true
 doubleFits Double pointer = eqb (pointer % 32) 0
 doubleFits (Circular size) pointer = true
 
+-- the window of a cell that is read
 abbrev pub cellWindow : Cell → Window
 cellWindow c = windowOf (c .scheme) (c .pointer)
 

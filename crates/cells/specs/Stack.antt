@@ -9,6 +9,7 @@ use Rattle.windows.specs.declared.window.Window.{Window}
 use Rattle.memory.specs.Map.{stackPointerPlace}
 use Rattle.windows.specs.Window.{aligned, meetsFixed, fitsBelow}
 
+-- "0100 / 0104: stack pointer, area A / B"
 unfoldable pub stackPointer : List ℕ → Settings → ℕ
 stackPointer ram s = getD ram (stackPointerPlace (s .area)) 0
 

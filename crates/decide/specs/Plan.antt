@@ -32,5 +32,6 @@ entryOf ram s =
       wrapped = rollsOver (stackWindow ram s) 4;
     }
 
+-- all that an accepted message does and reports, worked out before a word is written
 unfoldable pub planOf : List ℕ → Settings → Record → Plan
 planOf ram s v = record { deed = deedOf s (targetOf ram s (v .command)) v; entry = entryOf ram s }

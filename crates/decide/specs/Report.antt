@@ -12,7 +12,8 @@ use Rattle.deed.specs.declared.deed.Motion.{Motion}
 use Rattle.decide.specs.declared.report.Report.{Report}
 use Rattle.arrival.specs.Fault.{anyFault}
 
--- rule 7: "15 set; 13 bus B; 12 and 10 any fault; 7 rollover; 6 illegal; 5 count; 4 sync; 3 invalid word; 0 contents."
+-- rule 7: "15 set; 13 bus B; 12 and 10 any fault; 7 rollover; 6 illegal; 5 count; 4 sync; 3 invalid word; 0 contents.
+-- Others 0."
 unfoldable pub blockStatus : Bool → Faults → Bool → Bool → ℕ
 blockStatus busB f rollover illegal =
     0x8000

@@ -39,6 +39,7 @@ actWith s t v f valid =
       k = cond (transmits (v .command)) (wordsSent t valid (v .command)) (wordsStored s t v);
     }
 
+-- rules 3 and 4 for the message that was heard
 unfoldable pub actOf : Settings → Target → Record → Act
 actOf s t v = actWith s t v (faultsFor (t .broadcast) v) (not (anyFault (faultsFor (t .broadcast) v)))
 
@@ -73,6 +74,7 @@ motionWith scheme pointer w moved k =
       rollover = (isCircular scheme && moved) && rollsOver w k;
     }
 
+-- rule 5 for the cell and what was stored or sent
 unfoldable pub motionOf : Settings → Target → Act → Motion
 motionOf s t a =
     motionWith (t .cell .scheme) (t .cell .pointer) (t .window)

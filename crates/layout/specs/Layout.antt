@@ -48,5 +48,6 @@ notRead n = record { number = n; value = zeroValue }
 unfoldable pub readerRefusal : List ℕ → ℕ
 readerRefusal s = firstOf (record { number = 4; holds = wrongLength s } ∷ record { number = 5; holds = breaksLayout s } ∷ [])
 
+-- "Result: the number, the rest zero"
 unfoldable pub readRecord : List ℕ → Reading
 readRecord s = cond (eqb (readerRefusal s) 0) (record { number = 0; value = valueIn s }) (notRead (readerRefusal s))

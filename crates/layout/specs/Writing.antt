@@ -26,13 +26,15 @@ unfoldable pub putWords : List ℕ → List ℕ → ℕ → List ℕ
 putWords s words zero = s
 putWords s words (suc n) = putWord (putWords s words n) (16 + 2 * n) (getD words n 0)
 
+-- "A message record has 80 bytes": the header and the thirty-two words
 unfoldable pub bytesOf : Record → List ℕ
 bytesOf v = putWords (headerOf v) (v .words) 32
 
--- "5: record breaks its layout (also the writer's answer)"
+-- "It refuses a record value that breaks these rules." "5: record breaks its layout (also the writer's answer)"
 unfoldable pub writerRefusal : Record → ℕ
 writerRefusal v = firstOf (record { number = 5; holds = not (keepsLayout v) } ∷ [])
 
+-- "Result: the number, the rest zero"
 unfoldable pub writeRecord : Record → Written
 writeRecord v =
     cond (eqb (writerRefusal v) 0) (record { number = 0; bytes = bytesOf v })

@@ -8,7 +8,7 @@ use Rattle.words.specs.declared.settings.Area.{Area}
 use Rattle.words.specs.declared.settings.Area.the-variants.{A, B}
 use Rattle.words.specs.Command.{transmits, subaddressOf, countField}
 
--- refusal 1: "RAM is not 4,096 words". No other definition names the RAM's length.
+-- refusal 1: "RAM is not 4,096 words". No other rule names the RAM's length.
 unfoldable pub ramRefused : ℕ → Bool
 ramRefused length = not (eqb length 4096)
 
@@ -30,10 +30,12 @@ lookupPlace area cell = lookupTable area + cell
 abbrev pub controlPlace : Area → ℕ → ℕ
 controlPlace area sub = lookupTable area + 96 + sub
 
+-- a yes or no as a factor in a place: 1 or 0
 abbrev pub bitOf : Bool → ℕ
 bitOf true = 1
 bitOf false = 0
 
+-- "Bit 1 means busy or illegal."
 abbrev pub bitSet : ℕ → ℕ → Bool
 bitSet word bit = eqb (word / 2 ^ bit % 2) 1
 

@@ -48,6 +48,7 @@ groundsFor ram room s length layout command =
       cell = cellUnsound ram s command;
     }
 
+-- "Tested in this order"
 unfoldable pub refusalFor : List ℕ → ℕ → Settings → Bool → Bool → ℕ → ℕ
 refusalFor ram room s length layout command = firstRefusal (groundsFor ram room s length layout command)
 
@@ -102,7 +103,7 @@ unfoldable pub outcomeFor : ℕ → List ℕ → Settings → Remembered → Rec
 outcomeFor number ram s before v =
     cond (eqb number 0) (acceptedOutcome (planOf ram s v) v) (record { answer = refusedWith number; remembered = before })
 
--- every word of RAM afterwards
+-- every word of RAM afterwards; of a refusal, "RAM, reply and remembered state keep their contents"
 unfoldable pub ramFor : ℕ → List ℕ → Settings → Record → List ℕ
 ramFor number ram s v = cond (eqb number 0) (applyWrites (writesOf s (planOf ram s v) v) ram) ram
 

@@ -6,6 +6,7 @@ use lib.ListN.{getD, replicate}
 use lib.Dec.{ltb, leb, eqb}
 use Rattle.records.specs.declared.value.Record.{Record}
 
+-- "the rest zero": what a refusal carries for a value's words, and for the value
 abbrev pub zeroWords : List ℕ
 zeroWords = replicate 32 0
 

@@ -41,6 +41,8 @@ acceptedLine number a =
 unfoldable pub refusedLine : ℕ → ℕ → List ℕ
 refusedLine number refusal = startText number refusal ++ newline
 
+-- a record's line: its place, "number, block status, the cell's pointer before and after, status or "none", data words sent, interrupt
+-- word", or of a refused one the number alone
 unfoldable pub lineOf : ℕ → Answer → List ℕ
 lineOf number a = cond (eqb (a .number) 0) (acceptedLine number a) (refusedLine number (a .number))
 

@@ -33,6 +33,7 @@ programSettings =
 unfoldable pub imageInto : List ℕ → List ℕ → ℕ → List ℕ
 imageInto bytes ram n = fill (λ k. wordAt bytes (2 * k)) ram n
 
+-- the RAM that the program starts with
 unfoldable pub imageRam : List ℕ → List ℕ
 imageRam bytes = imageInto bytes (replicate 4096 0) 4096
 
@@ -40,11 +41,13 @@ imageRam bytes = imageInto bytes (replicate 4096 0) 4096
 unfoldable pub lastLines : ℕ → ℕ → List ℕ
 lastLines tail number = tailLine tail ++ endLine number
 
+-- the lines of all whole records, and the last lines
 unfoldable pub traceText : List ℕ → List ℕ → List ℕ
 traceText ram trace =
     walkAll programSettings trace (walkStart ram (replicate 33 0) nothingRemembered 0) .text
     ++ lastLines (length trace % 80) (walkAll programSettings trace (walkStart ram (replicate 33 0) nothingRemembered 0) .number)
 
+-- "An image under 8,192 bytes prints "image" and its length, and nothing else."
 unfoldable pub programOutput : List ℕ → List ℕ
 programOutput input =
     cond (ltb (length input) 8192) (imageLine (length input)) (traceText (imageRam (take 8192 input)) (drop 8192 input))

@@ -28,5 +28,6 @@ inOrder g =
     ∷ record { number = 9; holds = g .cell }
     ∷ []
 
+-- "Tested in this order": the number of the first that holds, and "0 is done"
 unfoldable pub firstRefusal : Grounds → ℕ
 firstRefusal g = firstOf (inOrder g)

@@ -19,7 +19,7 @@ settingsRefused s = ltb 30 (s .address) || not (stackSizeListed (s .«stack_size
 unfoldable pub isOwn : Settings → ℕ → Bool
 isOwn s command = eqb (addressOf command) (s .address)
 
--- "Address 31 is broadcast." No other definition names 31 as an address.
+-- "Address 31 is broadcast." No other rule names 31 as an address.
 unfoldable pub isBroadcast : Settings → ℕ → Bool
 isBroadcast s command = eqb (addressOf command) 31
 
