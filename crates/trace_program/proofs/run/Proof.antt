@@ -1,6 +1,6 @@
 -- `run` is safe and ends. The loop's invariant: the lent slices keep their lengths.
 use native.Mathlib.Omega.{arith}
-use mathlib.Core.Path.{_≡_}
+use mathlib.Core.Path.{_≡_, _∙_}
 use lib.ListN.{length}
 use borrow.Author.Needs.{needs}
 use Rattle.trace.proofs.Printed.{last-most}
@@ -31,7 +31,12 @@ loop-less : tie.Need-loop-less Inv-loop μ-loop
 loop-less c = search needs
 
 loop-again : tie.Need-loop-again Inv-loop μ-loop
-loop-again c = (cc, (cc, (cc, cc)))
+loop-again c =
+    let turn = c .before .before .before .before .before .before .before .before .refill .kept in
+    let so-far = c .before .before .before .before .before .before .before .before .before .before .before .before .before .before .before .loop .inv in (
+      turn .0 ∙ so-far .0,
+      (turn .1 .0 ∙ so-far .1 .0, (turn .1 .1 .0 ∙ so-far .1 .1 .0, turn .1 .1 .1 .0 ∙ so-far .1 .1 .1)),
+    )
 
 put-last-lines-requires : tie.Need-put-last-lines-requires Inv-loop μ-loop
 put-last-lines-requires c κs = search needs
