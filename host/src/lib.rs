@@ -3,8 +3,8 @@
 //!
 //! [`terminal`] carries out messages and whole traces; [`text`] turns traces
 //! into readable text and back; [`engine`] is the proved terminal behind its C
-//! boundary (feature `engine`); [`compare`] runs two terminals side by side;
-//! [`clock`] times them.
+//! boundary (feature `engine`); [`compare`] runs two terminals side by side
+//! on inputs of [`random`]; [`clock`] times them.
 
 pub mod clock;
 pub mod compare;

@@ -1,4 +1,4 @@
-//! The remote terminal, one subject per file, the lower ones first.
+//! The remote terminal, one subject per file.
 
 pub mod boundary;
 pub mod cells;

@@ -46,17 +46,12 @@ fn options() -> Result<Options, Box<dyn Error>> {
         match name.as_str() {
             "--messages" => options.messages = value.parse().map_err(|_| USAGE)?,
             "--seed" => options.seed = value.parse().map_err(|_| USAGE)?,
-            "--planted" => options.planted = Planted::named(&value).ok_or_else(error_names)?,
+            "--planted" => options.planted = Planted::named(&value)?,
             "--replay" => options.replay = Some(value),
             _ => return Err(USAGE.into()),
         }
     }
     Ok(options)
-}
-
-fn error_names() -> String {
-    let names: Vec<&str> = Planted::ERRORS.iter().map(|error| error.name()).collect();
-    format!("the errors are {}", names.join(", "))
 }
 
 /// Whether the comparison went as it should.
@@ -117,7 +112,7 @@ fn report(options: &Options, coverage: &Coverage) -> bool {
 fn print_case(case: &Case, plain: &Plain) {
     println!("what differs (plain Rust, then the proved terminal):");
     print!("{}", case.differences(plain, &Proved));
-    println!("the smallest case found, to be run again with compare --replay FILE:");
+    println!("the smallest case found, to be run again with scripts/compare --replay FILE:");
     print!("{}", write_case(case));
 }
 

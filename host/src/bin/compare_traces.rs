@@ -51,8 +51,9 @@ fn options() -> Result<Options, Box<dyn Error>> {
         match name.as_str() {
             "--traces" => options.traces = value.parse().map_err(|_| USAGE)?,
             "--seed" => options.seed = value.parse().map_err(|_| USAGE)?,
-            "--planted" => options.planted = Planted::named(&value).ok_or(USAGE)?,
-            "--report" => options.whole_report = value != "short",
+            "--planted" => options.planted = Planted::named(&value)?,
+            "--report" if value == "short" => options.whole_report = false,
+            "--report" if value == "whole" => options.whole_report = true,
             _ => return Err(USAGE.into()),
         }
     }
@@ -102,7 +103,7 @@ fn report(options: &Options, trace: &[u8], seed: u64) -> Result<(), Box<dyn Erro
     print!("{}", String::from_utf8_lossy(&expected));
     println!("the program prints:");
     print!("{}", String::from_utf8_lossy(&found));
-    println!("the smallest trace found, to be packed with trace_text pack:");
+    println!("the smallest trace found, to be run with scripts/trace FILE:");
     print!("{}", unpack(&smallest));
     Ok(())
 }

@@ -1,4 +1,5 @@
-//! Cells and the descriptor stack: where they lie and whether they are sound.
+//! Cells and the descriptor stack, where they lie and whether they are sound;
+//! the whole-area check, which asks that of all.
 //!
 //! Everything here reads RAM whose length [`check_ram`] has accepted.
 

@@ -43,11 +43,12 @@ impl Planted {
         }
     }
 
-    /// The error with this name.
-    pub fn named(name: &str) -> Option<Planted> {
-        Planted::ERRORS
-            .iter()
-            .copied()
-            .find(|error| error.name() == name)
+    /// The error with this name, or what the names are.
+    pub fn named(name: &str) -> Result<Planted, String> {
+        let mut errors = Planted::ERRORS.iter().copied();
+        errors.find(|error| error.name() == name).ok_or_else(|| {
+            let names = Planted::ERRORS.map(Planted::name);
+            format!("the errors are {}", names.join(", "))
+        })
     }
 }

@@ -54,9 +54,9 @@ fn a_case_can_be_written_and_read_again() {
 #[test]
 fn errors_have_names() {
     for planted in Planted::ERRORS {
-        assert_eq!(Planted::named(planted.name()), Some(planted));
+        assert_eq!(Planted::named(planted.name()), Ok(planted));
     }
-    assert_eq!(Planted::named("none"), None);
+    assert!(Planted::named("none").is_err());
 }
 
 #[test]

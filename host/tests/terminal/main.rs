@@ -1,7 +1,9 @@
 //! Tests of the whole library, one file per subject.
 
 mod area;
+mod changes;
 mod compare;
+mod guide;
 mod helpers;
 mod makers;
 mod message;

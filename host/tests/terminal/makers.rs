@@ -1,5 +1,5 @@
-//! Worked examples from the makers' documents, as far as the base runs them.
-//! The letters and numbers are those of the list of makers' facts.
+//! Worked examples from the makers' guides, each in the terms of the scope
+//! document.
 
 use plain_terminal::terminal::cells::{Cell, Kind, Scheme};
 use plain_terminal::terminal::records::{FLAG_BUS_B, FLAG_INVALID_WORD, FLAG_WRONG_SYNC};
@@ -26,7 +26,7 @@ fn fields(command: u16) -> (u16, bool, u16, u16) {
     )
 }
 
-/// E-1 to E-6: commands as the makers read them.
+/// Commands as the makers read them.
 #[test]
 fn command_words() {
     assert_eq!(fields(0x0C22), (1, true, 1, 2));
@@ -41,13 +41,13 @@ fn command_words() {
 }
 
 #[test]
-fn e1_cell_of_a_transmit() {
+fn cell_of_a_transmit() {
     let mut terminal = Terminal::new(rt(1), &[(0x0161, 0x0400)]);
     assert_eq!(terminal.run(&good(0x0C22)).cell, 33);
 }
 
 #[test]
-fn e2_two_words_of_zero() {
+fn two_words_of_zero() {
     let mut terminal = Terminal::new(rt(1), &[(0x0142, 0x0400)]);
     let message = record(0x0842, &[0, 0]);
     assert_eq!(terminal.columns(&message), "8000 0400 0400 0800 0 0003");
@@ -55,7 +55,7 @@ fn e2_two_words_of_zero() {
 }
 
 #[test]
-fn e3_four_words() {
+fn four_words() {
     let words = [0x1111, 0x2222, 0x3333, 0x4444];
     let mut terminal = Terminal::new(rt(1), &[(0x0141, 0x0400)]);
     assert_eq!(
@@ -67,13 +67,13 @@ fn e3_four_words() {
 }
 
 #[test]
-fn e5_mode_commands_are_refused() {
+fn mode_commands_are_refused() {
     let mut terminal = Terminal::new(rt(4), &[]);
     assert_eq!(terminal.columns(&record(0x2011, &[0xABCD])), "7");
 }
 
 #[test]
-fn e6_a_program_for_four_terminals() {
+fn a_program_for_four_terminals() {
     let mut data: Vec<u16> = (0..16).map(|digit| 0x1111 * digit).collect();
     data.extend((0..16).map(|place| 1 << place));
     let mut input = image(&[(0x0141, 0x0400)]);
@@ -105,7 +105,7 @@ fn e6_a_program_for_four_terminals() {
 }
 
 #[test]
-fn e8_illegal_bit_of_32_words() {
+fn illegal_bit_of_32_words() {
     let expected = BitPlace {
         word: 0x0386,
         bit: 0,
@@ -113,9 +113,9 @@ fn e8_illegal_bit_of_32_words() {
     assert_eq!(illegal_place(Command(0x2860)), expected);
 }
 
-/// E-9 to E-11: all status bits of the settings together.
+/// All status bits of the settings together.
 #[test]
-fn e11_status_bits() {
+fn status_bits() {
     let mut terminal = Terminal::with_circle(0x0400);
     terminal.settings.service_request = true;
     terminal.settings.subsystem_flag = true;
@@ -129,7 +129,6 @@ fn cells_of(control: u16) -> [Cell; 3] {
         .map(|kind| Cell::read(&terminal.ram, &RT5, kind, 3))
 }
 
-/// E-13 to E-15.
 #[test]
 fn control_words() {
     let [receive, transmit, broadcast] = cells_of(0x018C);
@@ -156,7 +155,7 @@ fn circle(pointer: u16, control: u16) -> Terminal {
 }
 
 #[test]
-fn e16_rollover_at_the_top_of_256_words() {
+fn rollover_at_the_top_of_256_words() {
     let mut fixed_area = circle(0x0190, 0x0140);
     let cell = Cell::read(&fixed_area.ram, &RT5, Kind::Receive, 3);
     assert_eq!(cell.window(), 0x0100..0x0200);
@@ -188,7 +187,7 @@ fn e16_rollover_at_the_top_of_256_words() {
 }
 
 #[test]
-fn e17_a_thousand_words() {
+fn a_thousand_words() {
     let mut terminal = circle(0x0818, 0x0180);
     for _ in 0..30 {
         assert_eq!(terminal.run(&good(0x2860)).block_status, 0x8000);
@@ -211,7 +210,7 @@ fn e17_a_thousand_words() {
 }
 
 #[test]
-fn e17_failed_messages_are_simply_sent_again() {
+fn failed_messages_are_simply_sent_again() {
     let mut terminal = circle(0x0818, 0x0180);
     for _ in 0..31 {
         assert_eq!(terminal.run(&heard(0x2860, 7, 0)).block_status, 0x9420);
@@ -224,7 +223,7 @@ fn e17_failed_messages_are_simply_sent_again() {
 }
 
 #[test]
-fn e18_messages_in_each_circle() {
+fn messages_in_each_circle() {
     for (field, pointer, messages) in [
         (1, 0x0400, 4),
         (2, 0x0400, 8),
@@ -245,7 +244,7 @@ fn e18_messages_in_each_circle() {
 }
 
 #[test]
-fn e19_the_host_sends_a_block_again() {
+fn the_host_sends_a_block_again() {
     for control in [0x1000, 0x3000] {
         let mut terminal = Terminal::new(RT5, &[(0x0163, 0x0800), (0x01A3, control)]);
         let block = numbered_words(0x5000, 32);
@@ -262,13 +261,13 @@ fn e19_the_host_sends_a_block_again() {
 }
 
 #[test]
-fn e19_no_subaddress_reaches_a_lookup_word() {
+fn no_subaddress_reaches_a_lookup_word() {
     let mut terminal = Terminal::new(RT5, &[(0x0144, 0x0163), (0x0164, 0x0163)]);
     assert_eq!(terminal.columns(&good(0x2881)), "9");
     assert_eq!(terminal.columns(&good(0x2C81)), "9");
 }
 
-/// The image of the complete RT example, section 1.3.
+/// The image of the makers' example of a complete terminal.
 fn rt7() -> Terminal {
     let settings = Settings {
         address: 7,
@@ -327,7 +326,7 @@ fn rt7() -> Terminal {
 }
 
 #[test]
-fn e20a_the_area_is_sound() {
+fn the_area_is_sound() {
     let mut terminal = rt7();
     assert_eq!(check_area(&terminal.ram, &terminal.settings), (0, 0));
     terminal.settings.separate_broadcast = false;
@@ -339,7 +338,7 @@ fn e20a_the_area_is_sound() {
 }
 
 #[test]
-fn e20b_legal_subaddresses() {
+fn legal_subaddresses() {
     let legal = |base: u16| -> Vec<u16> {
         (1..=30)
             .filter(|sub| {
@@ -357,7 +356,7 @@ fn e20b_legal_subaddresses() {
 }
 
 #[test]
-fn e20c_transmit_from_subaddress_1() {
+fn transmit_from_subaddress_1() {
     let mut terminal = rt7();
     assert_eq!(
         terminal.columns(&good(0x3C20)),
@@ -369,7 +368,7 @@ fn e20c_transmit_from_subaddress_1() {
 }
 
 #[test]
-fn e20d_a_full_circle_at_subaddress_7() {
+fn a_full_circle_at_subaddress_7() {
     let mut terminal = rt7();
     assert_eq!(
         terminal.columns(&good(0x38E0)),
@@ -385,7 +384,7 @@ fn e20d_a_full_circle_at_subaddress_7() {
 }
 
 #[test]
-fn e20e_double_buffer_at_subaddress_19() {
+fn double_buffer_at_subaddress_19() {
     let mut terminal = rt7();
     assert_eq!(
         terminal.columns(&good(0x3A60)),
@@ -402,7 +401,7 @@ fn e20e_double_buffer_at_subaddress_19() {
 }
 
 #[test]
-fn e20f_data_wraps_around_at_subaddress_30() {
+fn data_wraps_around_at_subaddress_30() {
     let mut terminal = rt7();
     assert_eq!(
         terminal.columns(&good(0x3BC0)),
@@ -417,7 +416,7 @@ fn e20f_data_wraps_around_at_subaddress_30() {
 
 /// The makers' own mistake: the flip lands on subaddress 30's block.
 #[test]
-fn e20g_broadcasts_land_in_another_block() {
+fn broadcasts_land_in_another_block() {
     let mut terminal = rt7();
     let first = record(0xFA60, &numbered_words(0xB000, 32));
     let second = record(0xFA60, &numbered_words(0xC000, 32));
@@ -432,7 +431,7 @@ fn e20g_broadcasts_land_in_another_block() {
 }
 
 #[test]
-fn e20h_unused_receive() {
+fn unused_receive() {
     let mut terminal = rt7();
     assert_eq!(
         terminal.columns(&good(0x3821)),
@@ -448,12 +447,12 @@ fn e20h_unused_receive() {
 }
 
 #[test]
-fn e20i_unused_transmit() {
+fn unused_transmit() {
     assert_eq!(rt7().columns(&good(0x3C41)), "8040 04E0 04E0 3C00 0 4003");
 }
 
 #[test]
-fn e20j_broadcast_to_subaddress_7() {
+fn broadcast_to_subaddress_7() {
     let mut terminal = rt7();
     assert_eq!(
         terminal.columns(&good(0xF8E0)),
@@ -463,7 +462,7 @@ fn e20j_broadcast_to_subaddress_7() {
 }
 
 #[test]
-fn e21_the_other_block_differs_in_bit_5() {
+fn the_other_block_differs_in_bit_5() {
     for (pointer, other) in [(0x0400, 0x0420), (0x0440, 0x0460)] {
         let mut terminal = circle(pointer, 0x8000);
         assert_eq!(terminal.run(&good(0x2864)).pointer_after, other);
@@ -474,7 +473,7 @@ fn e21_the_other_block_differs_in_bit_5() {
 }
 
 #[test]
-fn e23_without_bit_15_the_active_block_stays() {
+fn without_bit_15_the_active_block_stays() {
     let mut terminal = circle(0x0420, 0x0200);
     assert_eq!(
         terminal.columns(&good(0x2864)),
@@ -489,7 +488,7 @@ fn e23_without_bit_15_the_active_block_stays() {
 }
 
 #[test]
-fn e24_messages_in_each_stack() {
+fn messages_in_each_stack() {
     for (size, start, messages) in [
         (256, 0x0000, 64),
         (512, 0x0400, 128),
@@ -515,7 +514,6 @@ fn e24_messages_in_each_stack() {
     }
 }
 
-/// E-25 and E-26.
 #[test]
 fn the_stack_keeps_to_its_block_and_leaves_other_words() {
     let mut terminal = Terminal::new(RT5, &[(0x0100, 0x05F8), (0x0143, 0x0280)]);
@@ -531,7 +529,7 @@ fn the_stack_keeps_to_its_block_and_leaves_other_words() {
 }
 
 #[test]
-fn e28_one_word_legal_two_words_not() {
+fn one_word_legal_two_words_not() {
     let mut terminal = Terminal::new(RT5, &[(0x0382, 0x0004), (0x0141, 0x0400)]);
     assert_eq!(
         terminal.columns(&good(0x2821)),
@@ -553,14 +551,14 @@ fn e28_one_word_legal_two_words_not() {
 }
 
 #[test]
-fn e29_ten_words_legal_nine_not() {
+fn ten_words_legal_nine_not() {
     let mut terminal = Terminal::new(RT5, &[(0x0382, 0x0200), (0x0141, 0x0400)]);
     assert_eq!(terminal.run(&good(0x282A)).block_status, 0x8000);
     assert_eq!(terminal.run(&good(0x2829)).block_status, 0x8040);
 }
 
 #[test]
-fn e33_broadcast_transmit_may_be_illegal_too() {
+fn broadcast_transmit_may_be_illegal_too() {
     let mut terminal = Terminal::new(RT5, &[(0x0163, 0x0400)]);
     assert_eq!(
         terminal.columns(&good(0xFC64)),
@@ -574,9 +572,9 @@ fn e33_broadcast_transmit_may_be_illegal_too() {
     );
 }
 
-/// E-36: the scope's formula, not the makers', places own and broadcast.
+/// The scope document's formula, not the makers', places own and broadcast.
 #[test]
-fn e36_busy_places() {
+fn busy_places() {
     for (command, word, bit) in [
         (0x2C00, 0x0246, 0),
         (0x2FE0, 0x0247, 15),
@@ -589,7 +587,7 @@ fn e36_busy_places() {
 }
 
 #[test]
-fn e37_busy_subaddress() {
+fn busy_subaddress() {
     let image = [
         (0x0244, 0x0008),
         (0x0246, 0x0008),
@@ -616,7 +614,6 @@ fn e37_busy_subaddress() {
     assert_eq!(disabled.ram[0x0400], 0);
 }
 
-/// Section 1.7.
 #[test]
 fn table_of_faults() {
     for (flags, count, block_status) in [
@@ -644,7 +641,7 @@ fn table_of_faults() {
     );
 }
 
-/// Section 1.8, for a single receive cell and a stack at 0000.
+/// Where one receive cell may lie beside a stack at 0000.
 #[test]
 fn memory_map() {
     for (control, pointer, number) in [

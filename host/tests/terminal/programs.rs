@@ -6,11 +6,11 @@ use std::thread;
 
 use crate::trace::{example_input, EXAMPLE_OUTPUT};
 
-const TRACE: &str = env!("CARGO_BIN_EXE_trace_rust");
+pub const TRACE: &str = env!("CARGO_BIN_EXE_trace_rust");
 const TEXT: &str = env!("CARGO_BIN_EXE_trace_text");
-const COMPARE_TRACES: &str = env!("CARGO_BIN_EXE_compare_traces");
+pub const COMPARE_TRACES: &str = env!("CARGO_BIN_EXE_compare_traces");
 
-fn run(program: &str, arguments: &[&str], input: &[u8]) -> Output {
+pub fn run(program: &str, arguments: &[&str], input: &[u8]) -> Output {
     let mut child = Command::new(program)
         .args(arguments)
         .stdin(Stdio::piped())
@@ -79,10 +79,8 @@ fn traces_are_compared() {
     let compare = |arguments: &[&str]| {
         let arguments = [arguments, &[TRACE]].concat();
         let output = run(COMPARE_TRACES, &arguments, &[]);
-        (
-            output.status.code(),
-            String::from_utf8(output.stdout).unwrap(),
-        )
+        let printed = [output.stdout, output.stderr].concat();
+        (output.status.code(), String::from_utf8(printed).unwrap())
     };
     let (status, printed) = compare(&["--traces", "20"]);
     assert_eq!(status, Some(0));
@@ -96,6 +94,14 @@ fn traces_are_compared() {
     let (status, _) = compare(&["--traces", "5", "--planted", "pointer-after-in-descriptor"]);
     assert_eq!(status, Some(1));
 
-    let (status, _) = compare(&["--traces", "many"]);
-    assert_eq!(status, Some(2));
+    for (arguments, message) in [
+        (["--traces", "many"], "usage: "),
+        (["--report", "long"], "usage: "),
+        (["--planted", "none"], "the errors are pointer-after-"),
+    ] {
+        let (status, printed) = compare(&arguments);
+        assert_eq!(status, Some(2));
+        let expected = format!("compare_traces: {message}");
+        assert!(printed.starts_with(&expected), "{printed}");
+    }
 }
