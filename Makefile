@@ -11,18 +11,12 @@ demo:
 # Every test. The last step is the gate itself, so its last line, 'N passed, 0 failed', is the last line printed.
 test:
 	@rt fmt --check
-	@scripts/prepare
-	@scripts/cargo test --quiet --release
-	@scripts/compare
-	@scripts/compare-traces
-	@scripts/compare-refills
+	@scripts/compare-all
 	@rt ci
 
 # The proved terminal and the proved trace program against plain Rust.
 compare:
-	@scripts/compare
-	@scripts/compare-traces
-	@scripts/compare-refills
+	@scripts/compare-all
 
 # Speed of the proved side against plain Rust, as tables.
 bench:
