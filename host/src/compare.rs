@@ -1,6 +1,7 @@
 //! Two terminals side by side on the same inputs, one subject per file.
 
 pub mod case;
+mod classes;
 pub mod coverage;
 pub mod episode;
 pub mod replay;
@@ -10,5 +11,6 @@ pub mod sides;
 pub mod traces;
 
 pub use case::Case;
+pub(crate) use classes::classes;
 pub use run::{compare, Finding};
 pub use sides::{Plain, Side};

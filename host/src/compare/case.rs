@@ -165,14 +165,15 @@ impl Answers {
     }
 }
 
-struct Lines(String);
+/// Lines for a person to read, of two sides' values where they differ.
+pub(crate) struct Lines(pub String);
 
 impl Lines {
-    fn push(&mut self, line: std::fmt::Arguments) {
+    pub fn push(&mut self, line: std::fmt::Arguments) {
         writeln!(self.0, "{line}").expect("writing to a string never fails");
     }
 
-    fn debug<T: std::fmt::Debug + PartialEq>(&mut self, name: &str, left: &T, right: &T) {
+    pub fn debug<T: std::fmt::Debug + PartialEq>(&mut self, name: &str, left: &T, right: &T) {
         if left != right {
             self.push(format_args!("{name}: {left:?}, {right:?}"));
         }
@@ -184,7 +185,7 @@ impl Lines {
         }
     }
 
-    fn words(&mut self, name: &str, left: &[u16], right: &[u16]) {
+    pub fn words(&mut self, name: &str, left: &[u16], right: &[u16]) {
         for (place, (&left, &right)) in left.iter().zip(right).enumerate() {
             self.word(&format!("{name} {place:04X}"), left, right);
         }
@@ -202,7 +203,7 @@ impl Lines {
         self.words("reply", &left.reply, &right.reply);
     }
 
-    fn answer(&mut self, left: &Answer, right: &Answer) {
+    pub fn answer(&mut self, left: &Answer, right: &Answer) {
         self.debug("number", &left.number, &right.number);
         self.word("block status", left.block_status, right.block_status);
         self.debug("cell", &left.cell, &right.cell);

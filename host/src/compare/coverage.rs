@@ -1,8 +1,7 @@
 //! What a comparison has met: how often each class of case occurred.
 
-use std::fmt;
-
 use super::case::{Answers, Message, Request, State};
+use super::classes;
 use crate::terminal::cells::{Cell, Kind, Scheme, Stack, RAM_WORDS};
 use crate::terminal::message::cell_kind;
 use crate::terminal::records::{
@@ -10,16 +9,6 @@ use crate::terminal::records::{
 };
 use crate::terminal::words::Command;
 use crate::terminal::{Answer, Settings};
-
-/// Lists the classes with what each is called.
-macro_rules! classes {
-    ($($class:ident $name:literal,)*) => {
-        #[derive(Clone, Copy, Debug, PartialEq, Eq)]
-        enum Class { $($class,)* }
-
-        const NAMES: &[&str] = &[$($name,)*];
-    };
-}
 
 classes! {
     FromBytes "messages from bytes",
@@ -114,19 +103,6 @@ classes! {
     Area9Broadcast "whole-area check: 9, a broadcast cell",
 }
 
-#[derive(Clone, Debug, PartialEq, Eq)]
-pub struct Coverage {
-    counts: Vec<u64>,
-}
-
-impl Default for Coverage {
-    fn default() -> Coverage {
-        Coverage {
-            counts: vec![0; NAMES.len()],
-        }
-    }
-}
-
 /// What the cell and the stack were before a message.
 pub struct Before {
     cell: Option<(Cell, Stack)>,
@@ -151,13 +127,6 @@ impl Before {
 impl Coverage {
     pub fn messages(&self) -> u64 {
         self.count(Class::FromBytes) + self.count(Class::FromValue)
-    }
-
-    /// The names of the classes that never occurred.
-    pub fn missing(&self) -> Vec<&'static str> {
-        let missing = |(_, count): &(&&'static str, &u64)| **count == 0;
-        let pairs = NAMES.iter().zip(&self.counts);
-        pairs.filter(missing).map(|(name, _)| *name).collect()
     }
 
     /// Takes in one message: what was there, what was asked, what was answered.
@@ -345,27 +314,6 @@ impl Coverage {
             self.note(EndReached, end == size && moved > 0);
             self.note(EndMissed, end + 1 == size && moved > 0);
         }
-    }
-
-    fn either(&mut self, yes: Class, no: Class, holds: bool) {
-        self.note(if holds { yes } else { no }, true);
-    }
-
-    fn note(&mut self, class: Class, holds: bool) {
-        self.counts[class as usize] += u64::from(holds);
-    }
-
-    fn count(&self, class: Class) -> u64 {
-        self.counts[class as usize]
-    }
-}
-
-impl fmt::Display for Coverage {
-    fn fmt(&self, f: &mut fmt::Formatter) -> fmt::Result {
-        for (name, count) in NAMES.iter().zip(&self.counts) {
-            writeln!(f, "{count:>9}  {name}")?;
-        }
-        Ok(())
     }
 }
 

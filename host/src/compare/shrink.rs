@@ -1,70 +1,104 @@
 //! Makes a case on which two terminals differ small enough to be read.
 
-use super::case::{Case, Message};
+use super::case::{Case, Message, State};
 use crate::terminal::records::{Record, RECORD_WORDS};
 use crate::terminal::{Remembered, Settings};
 
 /// The smallest case found that still differs.
-///
-/// Every step takes something away, and a step that loses the difference is
-/// taken back, until no step is left that keeps it.
 pub fn shrink(case: &Case, differs: impl Fn(&Case) -> bool) -> Case {
-    let mut shrinking = Shrinking {
-        case: case.clone(),
-        differs,
-    };
+    let mut shrinking = Shrinking::new(case, differs);
     while shrinking.round() {}
-    shrinking.case
+    shrinking.smallest
 }
 
-struct Shrinking<F> {
-    case: Case,
+/// Something that shows a difference, on its way to become smaller.
+///
+/// Every step takes something away, and a step that loses the difference is
+/// taken back; there are rounds of steps until none is left that keeps it.
+pub(crate) struct Shrinking<T, F> {
+    pub smallest: T,
     differs: F,
 }
 
-impl<F: Fn(&Case) -> bool> Shrinking<F> {
-    /// One round of every step; whether anything became smaller.
-    fn round(&mut self) -> bool {
-        let mut smaller = self.zero_ram();
-        smaller |= self.take(|case| case.state.reply.fill(0));
-        smaller |= self.take(|case| case.state.remembered = Remembered::default());
-        for simpler in SIMPLER_SETTINGS {
-            smaller |= self.take(|case| simpler(&mut case.request.settings));
+impl<T: Clone + PartialEq, F: Fn(&T) -> bool> Shrinking<T, F> {
+    pub fn new(large: &T, differs: F) -> Shrinking<T, F> {
+        Shrinking {
+            smallest: large.clone(),
+            differs,
         }
-        match self.case.request.message.clone() {
-            Message::Bytes(bytes) => smaller |= self.shrink_bytes(bytes),
-            Message::Value(record) => smaller |= self.shrink_value(record),
-        }
-        smaller
     }
 
-    /// Keeps a change if it changes something and the case still differs.
-    fn take(&mut self, change: impl FnOnce(&mut Case)) -> bool {
-        let mut changed = self.case.clone();
+    /// Keeps a change if it changes something and the difference stays.
+    pub fn take(&mut self, change: impl FnOnce(&mut T)) -> bool {
+        let mut changed = self.smallest.clone();
         change(&mut changed);
-        let keep = changed != self.case && (self.differs)(&changed);
+        let keep = changed != self.smallest && (self.differs)(&changed);
         if keep {
-            self.case = changed;
+            self.smallest = changed;
         }
         keep
     }
 
-    /// Zeroes RAM, in blocks that become smaller.
-    fn zero_ram(&mut self) -> bool {
-        let mut smaller = false;
-        let length = self.case.state.ram.len();
+    /// Zeroes what a terminal starts from, RAM in blocks that become smaller.
+    pub fn zero_state(&mut self, state: impl Fn(&mut T) -> &mut State) -> bool {
+        let mut smaller = self.take(|t| state(t).reply.fill(0));
+        smaller |= self.take(|t| state(t).remembered = Remembered::default());
+        let length = state(&mut self.smallest).ram.len();
         let mut size = length.next_power_of_two();
         while size > 0 {
             for start in (0..length).step_by(size) {
                 let block = start..length.min(start + size);
-                if self.case.state.ram[block.clone()]
-                    .iter()
-                    .any(|&word| word != 0)
-                {
-                    smaller |= self.take(|case| case.state.ram[block].fill(0));
+                let words = &state(&mut self.smallest).ram[block.clone()];
+                if words.iter().any(|&word| word != 0) {
+                    smaller |= self.take(|t| state(t).ram[block].fill(0));
                 }
             }
             size /= 2;
+        }
+        smaller
+    }
+
+    /// Turns settings off.
+    pub fn simplify_settings(&mut self, settings: impl Fn(&mut T) -> &mut Settings) -> bool {
+        let mut smaller = false;
+        for simpler in SIMPLER_SETTINGS {
+            smaller |= self.take(|t| simpler(settings(t)));
+        }
+        smaller
+    }
+
+    /// Takes words and faults out of a record.
+    pub fn simplify_record(&mut self, record: impl Fn(&mut T) -> &mut Record) -> bool {
+        let mut smaller = false;
+        let mut attempt = |change: &dyn Fn(&mut Record)| {
+            smaller |= self.take(|t| change(record(t)));
+        };
+        attempt(&|record| record.tag = 0);
+        attempt(&|record| record.flags = 0);
+        attempt(&|record| record.flags /= 2);
+        for place in 0..RECORD_WORDS {
+            attempt(&|record| record.words[place] = 0);
+        }
+        attempt(&|record| record.count = 0);
+        attempt(&|record| record.count /= 2);
+        attempt(&|record| record.count = record.count.saturating_sub(1));
+        smaller
+    }
+}
+
+impl<F: Fn(&Case) -> bool> Shrinking<Case, F> {
+    /// One round of every step; whether anything became smaller.
+    fn round(&mut self) -> bool {
+        let mut smaller = self.zero_state(|case| &mut case.state);
+        smaller |= self.simplify_settings(|case| &mut case.request.settings);
+        match self.smallest.request.message.clone() {
+            Message::Bytes(bytes) => smaller |= self.shrink_bytes(bytes),
+            Message::Value(_) => {
+                smaller |= self.simplify_record(|case| match &mut case.request.message {
+                    Message::Value(record) => record,
+                    Message::Bytes(_) => unreachable!("no step makes bytes of a value"),
+                })
+            }
         }
         smaller
     }
@@ -82,28 +116,6 @@ impl<F: Fn(&Case) -> bool> Shrinking<F> {
                 }
             }
         }
-        smaller
-    }
-
-    fn shrink_value(&mut self, mut record: Record) -> bool {
-        let mut smaller = false;
-        let mut attempt = |change: &dyn Fn(&mut Record)| {
-            let mut changed = record;
-            change(&mut changed);
-            if self.take(|case| case.request.message = Message::Value(changed)) {
-                record = changed;
-                smaller = true;
-            }
-        };
-        attempt(&|record| record.tag = 0);
-        attempt(&|record| record.flags = 0);
-        attempt(&|record| record.flags /= 2);
-        for place in 0..RECORD_WORDS {
-            attempt(&|record| record.words[place] = 0);
-        }
-        attempt(&|record| record.count = 0);
-        attempt(&|record| record.count /= 2);
-        attempt(&|record| record.count = record.count.saturating_sub(1));
         smaller
     }
 }

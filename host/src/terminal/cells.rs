@@ -174,7 +174,8 @@ fn meets_fixed_area(range: &Range<usize>) -> bool {
     FIXED_AREAS.iter().any(|area| meet(area, range))
 }
 
-fn meet(a: &Range<usize>, b: &Range<usize>) -> bool {
+/// Whether two windows share a word.
+pub fn meet(a: &Range<usize>, b: &Range<usize>) -> bool {
     a.start < b.end && b.start < a.end
 }
 
