@@ -28,8 +28,8 @@ use Rattle.message.specs.Run.{stepValue, run, effectOf, effects}
 use Rattle.exchange.specs.Order.{swapAt, exchangeAll}
 use Rattle.exchange.specs.Condition.{wellFormed, allWellFormed, mayExchange, allowedAt, allowedAll}
 use Rattle.exchange.specs.Descriptors.{entriesOn, lastOf, stackWord}
-use Rattle.exchange.specs.Kept.{withoutWrap, calm, rememberedLast}
-use Rattle.exchange.specs.After.{keptAfter, stackAfter, rememberedAfter}
+use Rattle.exchange.specs.Kept.{withoutWrap, withoutStackRollover}
+use Rattle.exchange.specs.After.{keptAfter, stackAfter, rememberedLast, rememberedAfter}
 use Rattle.exchange.specs.Exchanged.{startsWell, takesWell, asked}
 use Rattle.exchange.specs.Cases.{bench, plainRam, startOf, Order, orderOf, Said, saidOf, Seen, seen, cases}
 
@@ -155,5 +155,5 @@ expected =
     ∷ []
 
 pub computed : map seen cases ≡ expected
-unfolding wordCount isModeSubaddress stackSizeListed settingsRefused isOwn isBroadcast isNotOurs lastsZero keepsLayout firstOf inOrder firstRefusal ramRefused stackPointerPlace lookupTable busyPlace isBusyAt illegalPlace isIllegalAt runFrom aligned placeOf rollsOver meets meetsFixed cellNumber kindNumbered kindOf controlPart pickScheme schemeOf cellAt windowOf doubleFits soundCell stackPointer stackWindow stackSound isRead cellNumbered isUnsound orElse lowest lowestUnsound groundsWith areaGrounds areaRefusal checkArea expectedWords faultsOf faultsFor anyFault cellFor isIllegal isBusy targetOf withheld wordsStored wordsSent actWith actOf mayMove stride moves motionWith motionOf blockStatus statusWord reportOf interruptWord deedOf entryOf planOf applyWrites writesTo pointerWrites descriptorOf entryWrites deedWrites stackWrites writesOf replyWrites replyWords cellUnsound groundsFor refusalFor refusedWith acceptedWith rememberedFrom acceptedOutcome outcomeFor ramFor replyFor outcomeOfValue ramAfterValue replyAfterValue stepValue run effectOf effects swapAt exchangeAll wellFormed allWellFormed mayExchange allowedAt allowedAll withoutWrap calm rememberedLast entriesOn lastOf stackWord keptAfter stackAfter rememberedAfter startsWell takesWell asked bench plainRam startOf orderOf saidOf seen
+unfolding wordCount isModeSubaddress stackSizeListed settingsRefused isOwn isBroadcast isNotOurs lastsZero keepsLayout firstOf inOrder firstRefusal ramRefused stackPointerPlace lookupTable busyPlace isBusyAt illegalPlace isIllegalAt runFrom aligned placeOf rollsOver meets meetsFixed cellNumber kindNumbered kindOf controlPart pickScheme schemeOf cellAt windowOf doubleFits soundCell stackPointer stackWindow stackSound isRead cellNumbered isUnsound orElse lowest lowestUnsound groundsWith areaGrounds areaRefusal checkArea expectedWords faultsOf faultsFor anyFault cellFor isIllegal isBusy targetOf withheld wordsStored wordsSent actWith actOf mayMove stride moves motionWith motionOf blockStatus statusWord reportOf interruptWord deedOf entryOf planOf applyWrites writesTo pointerWrites descriptorOf entryWrites deedWrites stackWrites writesOf replyWrites replyWords cellUnsound groundsFor refusalFor refusedWith acceptedWith rememberedFrom acceptedOutcome outcomeFor ramFor replyFor outcomeOfValue ramAfterValue replyAfterValue stepValue run effectOf effects swapAt exchangeAll wellFormed allWellFormed mayExchange allowedAt allowedAll withoutWrap withoutStackRollover rememberedLast entriesOn lastOf stackWord keptAfter stackAfter rememberedAfter startsWell takesWell asked bench plainRam startOf orderOf saidOf seen
 computed = refl

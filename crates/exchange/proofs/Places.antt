@@ -17,11 +17,11 @@ use Rattle.message.specs.Run.{State, stepValue, run, Effect, effectOf, effects}
 use Rattle.message.proofs.Kept.{Kept}
 use Rattle.exchange.specs.Order.{swapAt, exchangeAll}
 use Rattle.exchange.specs.Condition.{mayExchange, allowedAt, allowedAll}
-use Rattle.exchange.specs.Kept.{calm}
+use Rattle.exchange.specs.Kept.{withoutStackRollover}
 use Rattle.exchange.proofs.Taken.{Good, done, sure, good-next}
 use Rattle.exchange.proofs.Same.{Alike, alike-self, alike-both, alike-block, AllFormed, step-keeps, same-back, run-same}
 use Rattle.exchange.proofs.Separate.{separate, separate-swap}
-use Rattle.exchange.proofs.Swap.{calm-stays, orders-alike}
+use Rattle.exchange.proofs.Swap.{shown-stays, orders-alike}
 
 -- cells and windows stay, so what may be exchanged at the start may be exchanged later, and the other way round
 pub may-stays :
@@ -45,7 +45,7 @@ allowed-stays ram after s (suc n) (a ∷ b ∷ rest) k = allowed-stays ram after
 -- the two runs beside each other: RAM outside the stack, and what each message shows
 pub record Beside (s : Settings) (x : State) (vs ws : List Record) (shown : List Effect) : Type 0 where
   pub ram : Alike (stackWindow (x .ram) s) (run s ws x .ram) (run s vs x .ram)
-  pub kept : map calm (effects s ws x) ≡ shown
+  pub kept : map withoutStackRollover (effects s ws x) ≡ shown
 
 -- one exchange
 pub swap-run :
@@ -53,7 +53,7 @@ pub swap-run :
     Good s x →
     AllFormed s vs →
     allowedAt (x .ram) s n vs ≡ true →
-    Beside s x vs (swapAt n vs) (swapAt n (map calm (effects s vs x)))
+    Beside s x vs (swapAt n vs) (swapAt n (map withoutStackRollover (effects s vs x)))
 unfolding swapAt allowedAt run effects
 swap-run s n [] x g f e = absurd (true≢false (sym e))
 swap-run s n (a ∷ []) x g f e = absurd (true≢false (sym e))
@@ -83,7 +83,7 @@ swap-run s zero (a ∷ b ∷ rest) x g f e =
       ram =
           alike-block (stackWindow (x .ram) s) (stackWindow (xba .ram) s) (run s rest xba .ram) (run s rest xab .ram)
           (same-back (stackWindow (xba .ram) s) (stackWindow (x .ram) s) k) (r .1);
-      kept = rw (calm-stays s a b x g (f .0) (f .1 .0) p, calm-stays s b a x g (f .1 .0) (f .0) q, r .0);
+      kept = rw (shown-stays s a b x g (f .0) (f .1 .0) p, shown-stays s b a x g (f .1 .0) (f .0) q, r .0);
     }
 swap-run s (suc n) (a ∷ b ∷ rest) x g f e =
     let xa = stepValue s a x in
@@ -94,7 +94,7 @@ swap-run s (suc n) (a ∷ b ∷ rest) x g f e =
       ram =
           alike-block (stackWindow (x .ram) s) (stackWindow (xa .ram) s) (run s (swapAt n (b ∷ rest)) xa .ram)
           (run s (b ∷ rest) xa .ram) (same-back (stackWindow (xa .ram) s) (stackWindow (x .ram) s) (k .stack)) (r .ram);
-      kept = ap (λ (es : List Effect). calm (effectOf s a x) ∷ es) (r .kept);
+      kept = ap (λ (es : List Effect). withoutStackRollover (effectOf s a x) ∷ es) (r .kept);
     }
 
 -- an exchange keeps the messages well-formed, and as many
@@ -128,7 +128,7 @@ pub exchange-run :
     Good s x →
     AllFormed s vs →
     allowedAll (x .ram) s ns vs ≡ true →
-    Beside s x vs (exchangeAll ns vs) (exchangeAll ns (map calm (effects s vs x)))
+    Beside s x vs (exchangeAll ns vs) (exchangeAll ns (map withoutStackRollover (effects s vs x)))
 unfolding exchangeAll allowedAll
 exchange-run s [] vs x g f e = record { ram = alike-self (stackWindow (x .ram) s) (run s vs x .ram); kept = refl }
 exchange-run s (n ∷ ns) vs x g f e =

@@ -9,7 +9,7 @@ use Rattle.words.specs.declared.settings.Settings.{Settings}
 use Rattle.message.specs.Answer.{acceptedWith}
 use Rattle.decide.specs.Plan.{planOf}
 use Rattle.message.specs.Run.{State, stepValue, run, Effect, effectOf, effects}
-use Rattle.exchange.specs.Kept.{lastWord, overFront, repliedAll, rememberedLast}
+use Rattle.exchange.specs.After.{lastWord, overFront, repliedAll, rememberedLast}
 use Rattle.exchange.specs.Exchanged.{allDone}
 use Rattle.exchange.proofs.Taken.{Good, done, good-next}
 use Rattle.exchange.proofs.Same.{AllFormed}

@@ -23,7 +23,7 @@ use Rattle.carry.proofs.Footprint.{Avoids, untouched, Outside, same-at}
 use Rattle.message.proofs.Sure.{Sure}
 use Rattle.message.proofs.Step.{afterMessage, deedFor, after-length, beyond-stack, stack-moves}
 use Rattle.message.proofs.Kept.{message-keeps}
-use Rattle.exchange.specs.Kept.{withoutWrap, calm}
+use Rattle.exchange.specs.Kept.{withoutWrap, withoutStackRollover}
 use Rattle.exchange.proofs.Taken.{Good, Formed, done, sure, good-next}
 use Rattle.exchange.proofs.Same.{Alike}
 use Rattle.exchange.proofs.Separate.{Separate, separate-swap, aim-stays, reads-stay, one-avoids}
@@ -65,30 +65,30 @@ shows d words v =
       descriptor = descriptorOf d v;
     }
 
-calm-shows :
+shows-without-rollover :
     (s : Settings) (v : Record) (x : State) →
     Good s x →
     Formed s v →
-    calm (effectOf s v x) ≡ shows (deedFor (x .ram) s v) (replyWords (x .ram) (deedFor (x .ram) s v)) v
-unfolding calm acceptedWith planOf
-calm-shows s v x g f =
+    withoutStackRollover (effectOf s v x) ≡ shows (deedFor (x .ram) s v) (replyWords (x .ram) (deedFor (x .ram) s v)) v
+unfolding withoutStackRollover acceptedWith planOf
+shows-without-rollover s v x g f =
     let d = deedFor (x .ram) s v in
     rw (done s v x g f .effect, wrap-cleared (d .target) (d .act .valid) (d .motion .rollover) (planOf (x .ram) s v .entry .wrapped))
 
 -- a message that goes first takes nothing from what the other shows
-pub calm-stays :
+pub shown-stays :
     (s : Settings) (a b : Record) (x : State) →
     Good s x →
     Formed s a →
     Formed s b →
     Separate (x .ram) s a b →
-    calm (effectOf s b (stepValue s a x)) ≡ calm (effectOf s b x)
-calm-stays s a b x g f h p =
+    withoutStackRollover (effectOf s b (stepValue s a x)) ≡ withoutStackRollover (effectOf s b x)
+shown-stays s a b x g f h p =
     let fa = sure s a x g f in
     let fb = sure s b x g h in
-    calm-shows s b (stepValue s a x) (good-next s a x g f) h
+    shows-without-rollover s b (stepValue s a x) (good-next s a x g f) h
     ∙ rw (done s a x g f .ram, reads-stay (x .ram) s a b fa fb p, aim-stays (x .ram) s a b fa fb p)
-    (sym (calm-shows s b x g h))
+    (sym (shows-without-rollover s b x g h))
 
 -- RAM outside the stack, in both orders
 module _

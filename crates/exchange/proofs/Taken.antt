@@ -29,7 +29,7 @@ use Rattle.message.proofs.Kept.{fine-kept}
 use Rattle.carry.proofs.Writes.{length-apply}
 use Rattle.carry.proofs.Replied.{reply-front, sent-few}
 use Rattle.exchange.specs.Condition.{wellFormed}
-use Rattle.exchange.specs.Kept.{overFront}
+use Rattle.exchange.specs.After.{overFront}
 
 -- a state from which every well-formed message is accepted
 pub record Good (s : Settings) (x : State) : Type 0 where

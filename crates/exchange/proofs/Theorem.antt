@@ -82,7 +82,7 @@ exchange s x vs places e =
     let ws = exchangeAll places vs in
     let k = exchange-formed s places vs f in
     record {
-      done = run-done s ws x g k;
+      done = (run-done s vs x g f, run-done s ws x g k);
       long = b .ram .long;
       ram = λ a h. b .ram .words a (outside (stackWindow (x .ram) s) a h);
       pointer = pointer-equal s x (run s ws x .ram) (run s vs x .ram) g (b .ram);

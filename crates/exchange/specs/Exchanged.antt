@@ -14,7 +14,7 @@ use Rattle.message.specs.Answer.{replyRefused}
 use Rattle.message.specs.Run.{State, run, Effect, effects}
 use Rattle.exchange.specs.Order.{exchangeAll}
 use Rattle.exchange.specs.Condition.{allWellFormed, allowedAll}
-use Rattle.exchange.specs.Kept.{calm}
+use Rattle.exchange.specs.Kept.{withoutStackRollover}
 use Rattle.exchange.specs.After.{keptAfter, stackAfter, rememberedAfter, repliedAfter}
 
 -- "Start where the whole-area check passes, with 33 reply words."
@@ -42,8 +42,8 @@ allDone (e ∷ es) = (e .answer .number ≡ 0) × allDone es
 -- the messages `vs` run from x, beside the same messages in the new order run from x; with no exchange at all, `places` is
 -- empty and the new order is the old
 pub record Exchanged (s : Settings) (x : State) (vs : List Record) (places : List ℕ) : Type 0 where
-  -- no such message is refused
-  pub done : allDone (effects s (exchangeAll places vs) x)
+  -- no message is refused, in the old order or in the new one
+  pub done : allDone (effects s vs x) × allDone (effects s (exchangeAll places vs) x)
   -- "All RAM outside the stack ends equal"
   pub long : length (run s (exchangeAll places vs) x .ram) ≡ length (run s vs x .ram)
   pub ram :
@@ -53,7 +53,7 @@ pub record Exchanged (s : Settings) (x : State) (vs : List Record) (places : Lis
   -- ", and so does the stack pointer."
   pub pointer : stackPointer (run s (exchangeAll places vs) x .ram) s ≡ stackPointer (run s vs x .ram) s
   -- "Each message keeps its reply, descriptor and interrupt word, except the stack-rollover bit."
-  pub kept : map calm (effects s (exchangeAll places vs) x) ≡ keptAfter s x vs places
+  pub kept : map withoutStackRollover (effects s (exchangeAll places vs) x) ≡ keptAfter s x vs places
   -- "The stack holds the last descriptors that fit, in the new order", and the rest of its block is as it was
   pub stack :
       (j : ℕ) →
