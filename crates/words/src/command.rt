@@ -31,13 +31,13 @@ pub fn count_field(command: u16) -> u16
 pub fn word_count(command: u16) -> u16
     ensures { λ r. ⌜ r ≡ wordCount command ⌝ }
 {
-    let field = command % 32;
+    let field = count_field(command);
     pick(field == 0, 32, field)
 }
 
 pub fn mode_subaddress(command: u16) -> bool
     ensures { λ r. ⌜ r ≡ isModeSubaddress command ⌝ }
 {
-    let sub = command / 32 % 32;
+    let sub = subaddress(command);
     either(sub == 0, sub == 31)
 }
