@@ -1,5 +1,6 @@
-// Settings, remembered state, answers and record values as plain words. Words are read and put from the last to the first:
-// where the last is there all are, so the compiler leaves one test of the length for them all.
+// Settings, remembered state, answers and record values as plain words. Single words are read and put from the last to the first:
+// where the last is there all are, so one test of the length is left. A value's words and a record's bytes are copied upwards, as far as there
+// is room.
 ghost use mathlib.Core.Path.{_≡_};
 ghost use Prim.Native.Nat.{min, _+_, _≤_};
 ghost use lib.ListN.{getD};

@@ -1,5 +1,4 @@
--- Which words an accepted message can change: those of its cell's window, the cell's lookup word, the active stack's block and
--- the stack pointer. Every other word is left alone, by any call.
+-- What a list of writes leaves alone, and what it leaves behind.
 use Prim.Native.Nat.{ℕ, zero, suc, _+_, _≤_, _<_}
 use native.Mathlib.Omega.{arith}
 use mathlib.Core.Path.{_≡_, refl, sym, _∙_}

@@ -13,11 +13,6 @@ unfolding applyWrites
 apply-append [] ys ram = refl
 apply-append (x ∷ xs) ys ram = apply-append xs ys (set ram (x .at) (x .word))
 
--- no write changes nothing
-pub apply-none : (place word : ℕ → ℕ) (ram : List ℕ) → applyWrites (writesTo place word 0) ram ≡ ram
-unfolding applyWrites writesTo
-apply-none place word ram = refl
-
 -- one write more
 pub apply-more :
     (place word : ℕ → ℕ) (n : ℕ) (ram : List ℕ) →
