@@ -5,12 +5,10 @@ use native.Mathlib.Numerals.{add-one, unary-clauses}
 use native.Mathlib.Omega.{arith}
 use mathlib.Core.Path.{_≡_, refl, sym, _∙_}
 use mathlib.Core.Logic.{⊎-elim}
-use mathlib.Core.Bool.{Bool, true, false, cond}
 use mathlib.Core.List.{List, [], _∷_}
 use lib.ListN.{length, getD, set, length-set}
 use lib.Seq.{sets, set-comm, set-out}
 use Rattle.words.proofs.Basics.{lt-or-ge}
-use Rattle.memory.specs.Map.{bitOf}
 use Rattle.boundary.specs.Boundary.{over}
 
 pub over-more : (xs ys : List ℕ) (from n : ℕ) → over xs ys from (n + 1) ≡ set (over xs ys from n) (from + n) (getD ys n 0)
@@ -73,7 +71,3 @@ nine-back xs a b c d e f g h i =
     sets-back xs (a ∷ b ∷ c ∷ d ∷ e ∷ f ∷ g ∷ h ∷ i ∷ []) 0
     ∙ rw
     (sets-back (set xs 8 i) (e ∷ f ∷ g ∷ h ∷ []) 4, sets-back (back (set xs 8 i) 4 (e ∷ f ∷ g ∷ h ∷ [])) (a ∷ b ∷ c ∷ d ∷ []) 0)
-
-pub bit-of : (b : Bool) → bitOf b ≡ cond b 1 0
-bit-of true = refl
-bit-of false = refl

@@ -5,14 +5,13 @@ use mathlib.Core.Path.{_≡_, refl}
 use mathlib.Core.Bool.{true, false, not, _&&_, _||_}
 use lib.Dec.{ltb}
 use borrow.Author.Tests.{ltb-true, leb-true, eqb-true, lt-ltb, le-leb, eq-eqb, not-true}
-use Rattle.words.proofs.Basics.{and-left, and-right, or-left, or-right}
+use Rattle.words.proofs.Basics.{and-left, and-right, or-left, or-right, or-neither}
 use Rattle.cells.specs.declared.cell.Scheme.{Scheme}
 use Rattle.cells.specs.declared.cell.Scheme.the-variants.{Single, Double, Circular}
 use Rattle.cells.specs.declared.cell.Cell.{Cell}
 use Rattle.windows.specs.declared.window.Window.{Window}
 use Rattle.windows.specs.Window.{placeOf, meets, meetsFixed, windowsMeet, fitsBelow}
 use Rattle.cells.specs.Cell.{windowOf, doubleFits, cellWindow, soundCell}
-use Rattle.windows.proofs.Flags.{or-neither}
 use Rattle.windows.proofs.Wrap.{place-from, place-below, SameRun}
 use Rattle.windows.proofs.Meets.{nothing-shared}
 use Rattle.memory.proofs.Places.{OrdinaryAddress}

@@ -13,7 +13,7 @@ use borrow.Author.Tests.{ltb-true, ltb-false}
 use Rattle.records.specs.declared.value.Record.{Record}
 use Rattle.words.specs.declared.settings.Settings.{Settings}
 use Rattle.words.proofs.Basics.{yes-or-no}
-use Rattle.words.proofs.SettingsLaws.{settings-agreed}
+use Rattle.words.proofs.SettingsLaws.{ListedSize, settings-agreed}
 use Rattle.windows.specs.declared.window.Window.{Window}
 use Rattle.windows.specs.Window.{aligned}
 use Rattle.cells.specs.Stack.{stackPointer, stackWindow}
@@ -22,7 +22,7 @@ use Rattle.cells.proofs.Block.{stack-nonempty}
 use Rattle.message.specs.Run.{State, stepValue, run, effectOf, effects}
 use Rattle.message.proofs.Step.{stack-moves, entry-stands, block-stays}
 use Rattle.exchange.specs.Descriptors.{entriesOn, lastOf, stackWord}
-use Rattle.exchange.proofs.Numbers.{ListedSize, for-listed, Offset, on, on-less, on-farthest, on-other, further, next-offset, last-on}
+use Rattle.exchange.proofs.Numbers.{for-listed, Offset, on, on-less, on-farthest, on-other, further, next-offset, last-on}
 use Rattle.exchange.proofs.Taken.{Good, Formed, done, sure, good-next}
 use Rattle.exchange.proofs.Same.{AllFormed}
 

@@ -6,9 +6,7 @@ use mathlib.Core.Path.{_≡_}
 use native.Mathlib.Nat.{mod-eq-of-lt, mod-self}
 use mathlib.Core.Logic.{_⊎_, ⊎-elim}
 use Rattle.words.proofs.Basics.{lt-or-ge}
-
-abbrev pub ListedSize : ℕ → Type 0
-ListedSize n = ((n ≡ 256) ⊎ (n ≡ 512)) ⊎ ((n ≡ 1024) ⊎ (n ≡ 2048))
+use Rattle.words.proofs.SettingsLaws.{ListedSize}
 
 -- what holds for each listed size holds for any
 pub for-listed : (P : ℕ → Type 0) → P 256 → P 512 → P 1024 → P 2048 → (n : ℕ) → ListedSize n → P n

@@ -12,13 +12,12 @@ use Rattle.records.specs.declared.value.Record.{Record}
 use Rattle.words.specs.declared.settings.Settings.{Settings}
 use Rattle.words.specs.Command.{transmits, subaddressOf}
 use Rattle.words.specs.Settings.{isOwn}
-use Rattle.words.proofs.Basics.{lt-or-ge, eq-or-ne, and-left, and-right}
+use Rattle.words.proofs.Basics.{lt-or-ge, eq-or-ne, and-left, and-right, or-either}
 use Rattle.windows.specs.declared.window.Window.{Window}
 use Rattle.memory.specs.Map.{lookupPlace}
 use Rattle.windows.specs.Window.{placeOf, windowsMeet}
 use Rattle.memory.specs.Kind.{kindOf}
 use Rattle.cells.specs.Stack.{stackWindow}
-use Rattle.windows.proofs.Flags.{or-either}
 use Rattle.windows.proofs.Wrap.{place-from, place-below}
 use Rattle.windows.proofs.Meets.{windows-swap, nothing-shared}
 use Rattle.cells.proofs.Sound.{FreeAddress, sound-address}

@@ -9,7 +9,7 @@ use lib.ListN.{getD}
 use Rattle.records.specs.declared.value.Record.{Record}
 use Rattle.words.specs.declared.settings.Settings.{Settings}
 use Rattle.words.proofs.Basics.{eq-or-ne}
-use Rattle.memory.specs.Map.{stackPointerPlace, bitOf}
+use Rattle.memory.specs.Map.{stackPointerPlace}
 use Rattle.cells.specs.Stack.{stackPointer, stackWindow}
 use Rattle.arrival.specs.declared.target.Target.{Target}
 use Rattle.decide.specs.declared.plan.Deed.{Deed}
@@ -19,6 +19,7 @@ use Rattle.carry.specs.Writes.{applyWrites, deedWrites, descriptorOf}
 use Rattle.carry.specs.Reply.{replyWords}
 use Rattle.message.specs.Answer.{acceptedWith}
 use Rattle.message.specs.Run.{State, stepValue, Effect, effectOf}
+use Rattle.memory.proofs.Bits.{bit-small}
 use Rattle.carry.proofs.Footprint.{Avoids, untouched, Outside, same-at}
 use Rattle.message.proofs.Sure.{Sure}
 use Rattle.message.proofs.Step.{afterMessage, deedFor, after-length, beyond-stack, stack-moves}
@@ -27,10 +28,6 @@ use Rattle.exchange.specs.Kept.{withoutWrap, withoutStackRollover}
 use Rattle.exchange.proofs.Taken.{Good, Formed, done, sure, good-next}
 use Rattle.exchange.proofs.Same.{Alike}
 use Rattle.exchange.proofs.Separate.{Separate, separate-swap, aim-stays, reads-stay, one-avoids}
-
-bit-small : (b : Bool) → bitOf b ≤ 1
-bit-small true = omega arith
-bit-small false = omega arith
 
 -- the interrupt word without bit 6 is the one of a stack that did not wrap
 pub wrap-cleared :

@@ -2,14 +2,15 @@
 use Prim.Native.Nat.{ℕ, _≤_, _<_}
 use native.Mathlib.Omega.{arith}
 use mathlib.Core.Path.{_≡_}
-use mathlib.Core.Bool.{Bool, true, false}
+use mathlib.Core.Bool.{Bool}
 use Rattle.words.specs.declared.settings.Area.{Area}
 use Rattle.words.specs.declared.settings.Area.the-variants.{A, B}
 use Rattle.words.specs.Command.{transmits}
 use Rattle.memory.specs.declared.kind.Kind.{Kind}
 use Rattle.memory.specs.declared.kind.Kind.the-variants.{Receive, Transmit, Broadcast}
-use Rattle.memory.specs.Map.{stackPointerPlace, lookupTable, lookupPlace, controlPlace, bitOf, busyPlace, illegalPlace}
+use Rattle.memory.specs.Map.{stackPointerPlace, lookupTable, lookupPlace, controlPlace, busyPlace, illegalPlace}
 use Rattle.memory.specs.Kind.{kindNumber}
+use Rattle.memory.proofs.Bits.{bit-small}
 
 pub record Between (low high x : ℕ) : Type 0 where
   pub from : low ≤ x
@@ -28,10 +29,6 @@ kind-low Receive = omega arith
 kind-low Transmit = omega arith
 kind-low Broadcast = omega arith
 
-bit-low : (b : Bool) → bitOf b ≤ 1
-bit-low true = omega arith
-bit-low false = omega arith
-
 -- the lookup words, the control words, the stack pointers and the busy words lie in 0100-0247
 pub lookup-between : (area : Area) (cell : ℕ) → cell < 96 → Between 0x140 0x21F (lookupPlace area cell)
 lookup-between area cell h = omega (arith, table-between area)
@@ -46,12 +43,12 @@ stack-pointer-between B = omega arith
 
 pub busy-between : (own : Bool) (command : ℕ) → Between 0x240 0x247 (busyPlace own command)
 unfolding busyPlace
-busy-between own command = omega (arith, bit-low own, bit-low (transmits command))
+busy-between own command = omega (arith, bit-small own, bit-small (transmits command))
 
 -- the illegal words in 0300-03FF
 pub illegal-between : (own : Bool) (command : ℕ) → Between 0x300 0x3FF (illegalPlace own command)
 unfolding illegalPlace
-illegal-between own command = omega (arith, bit-low own, bit-low (transmits command))
+illegal-between own command = omega (arith, bit-small own, bit-small (transmits command))
 
 -- different cells have different lookup words, and no lookup word is a control word or the stack pointer
 pub lookup-differs : (area : Area) (i j : ℕ) → lookupPlace area i ≡ lookupPlace area j → i ≡ j
@@ -70,13 +67,13 @@ pub control-not-stack-pointer :
     (area : Area) (sub : ℕ) → controlPlace area sub ≡ stackPointerPlace area → ⊥
 control-not-stack-pointer area sub e = omega (arith, table-between area, stack-pointer-between area)
 
--- no ordinary address is a place of the map
 -- an address that is in RAM and in no fixed area
 pub record OrdinaryAddress (length x : ℕ) : Type 0 where
   pub inside : x < length
   pub tables : 0x100 ≤ x → x < 0x248 → ⊥
   pub illegal : 0x300 ≤ x → x < 0x400 → ⊥
 
+-- no ordinary address is a place of the map
 module _ (length x : ℕ) (f : OrdinaryAddress length x) where
   not-tables : (p : ℕ) → 0x100 ≤ p → p ≤ 0x247 → p ≡ x → ⊥
   not-tables p l h e = f .tables (omega arith) (omega arith)

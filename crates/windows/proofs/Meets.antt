@@ -6,19 +6,14 @@ use mathlib.Core.Logic.{_⊎_, inl, inr, ⊎-elim}
 use mathlib.Core.Bool.{true, false, and-comm, and-false}
 use lib.Dec.{ltb}
 use borrow.Author.Tests.{ltb-true, lt-ltb, le-ltb}
-use Rattle.words.proofs.Basics.{and-left, and-right, lt-or-ge}
+use Rattle.words.proofs.Basics.{and-both, and-left, and-right, not-both, lt-or-ge}
 use Rattle.windows.specs.declared.window.Window.{Window}
 use Rattle.windows.specs.Window.{placeOf, meets, windowsMeet}
-use Rattle.windows.proofs.Flags.{and-both, not-both}
 use Rattle.windows.proofs.Wrap.{place-from, place-below}
 
 -- the n words from a and the m words from b are apart: one ends before the other begins
 abbrev pub Apart : ℕ → ℕ → ℕ → ℕ → Type 0
 Apart a n b m = (a + n ≤ b) ⊎ (b + m ≤ a)
-
-pub apart-swap : (a n b m : ℕ) → Apart a n b m → Apart b m a n
-apart-swap a n b m (inl l) = inr l
-apart-swap a n b m (inr l) = inl l
 
 module _ (a n b m : ℕ) where
   pub meets-swap : meets a n b m ≡ meets b m a n

@@ -1,27 +1,25 @@
 -- What settings that are not refused say, and whose a command is.
 use Prim.Native.Nat.{ℕ, _≤_}
 use native.Mathlib.Omega.{arith}
-use mathlib.Core.Path.{_≡_, refl}
+use mathlib.Core.Path.{_≡_}
 use mathlib.Core.Logic.{_⊎_, inl, inr, ⊎-elim}
-use mathlib.Core.Bool.{Bool, true, false, _||_}
+use mathlib.Core.Bool.{true, false, _||_}
 use lib.Dec.{ltb, eqb}
 use borrow.Author.Tests.{ltb-false, eqb-true, ne-eqb, not-false}
 use Rattle.words.specs.declared.settings.Settings.{Settings}
 use Rattle.words.specs.Command.{addressOf}
 use Rattle.words.specs.Settings.{stackSizeListed, settingsRefused, isOwn, isBroadcast, isNotOurs}
-use Rattle.words.proofs.Basics.{yes-or-no, or-left, or-right}
+use Rattle.words.proofs.Basics.{yes-or-no, or-either, or-left, or-right}
+
+abbrev pub ListedSize : ℕ → Type 0
+ListedSize n = ((n ≡ 256) ⊎ (n ≡ 512)) ⊎ ((n ≡ 1024) ⊎ (n ≡ 2048))
 
 -- "RT address 0 to 30; .. stack size 256, 512, 1,024 or 2,048 words"
 pub record Agreed (s : Settings) : Type 0 where
   pub address : s .address ≤ 30
-  pub size :
-      ((s .«stack_size» ≡ 256) ⊎ (s .«stack_size» ≡ 512)) ⊎ ((s .«stack_size» ≡ 1024) ⊎ (s .«stack_size» ≡ 2048))
+  pub size : ListedSize (s .«stack_size»)
 
-or-either : (a b : Bool) → (a || b) ≡ true → (a ≡ true) ⊎ (b ≡ true)
-or-either true b e = inl refl
-or-either false b e = inr e
-
-listed : (n : ℕ) → stackSizeListed n ≡ true → ((n ≡ 256) ⊎ (n ≡ 512)) ⊎ ((n ≡ 1024) ⊎ (n ≡ 2048))
+listed : (n : ℕ) → stackSizeListed n ≡ true → ListedSize n
 unfolding stackSizeListed
 listed n e =
     ⊎-elim

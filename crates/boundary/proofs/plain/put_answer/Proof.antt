@@ -1,7 +1,8 @@
 -- `put_answer` meets its contract: nine words in a row.
 use borrow.Author.Needs.{needs}
 use Rattle.boundary.specs.Boundary.{answerWords, answerInto}
-use Rattle.boundary.proofs.Over.{nine-back, bit-of}
+use Rattle.memory.proofs.Bits.{bit-of}
+use Rattle.boundary.proofs.Over.{nine-back}
 use Rattle.boundary.proofs.plain.put_answer.Statement.{statement}
 use Rattle.boundary.proofs.plain.put_answer.Tie as tie
 
