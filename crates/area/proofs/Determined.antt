@@ -4,11 +4,5 @@ use mathlib.Core.Path.{refl}
 use Rattle.words.proofs.Settled.{determined, Settled}
 use Rattle.area.proofs.area
 
-pub is-read-settled : Settled 0 area.is_read.Kinds.ps area.is_read.Kinds.r area.is_read.Reads.Post
-is-read-settled κs a x y v w p q = (determined p q, refl)
-
-pub cell-numbered-settled : Settled 1 area.cell_numbered.Kinds.ps area.cell_numbered.Kinds.r area.cell_numbered.Reads.Post
-cell-numbered-settled κs a x y v w p q = (determined p q, refl)
-
 pub check-area-settled : Settled 1 area.check_area.Kinds.ps area.check_area.Kinds.r area.check_area.Reads.Post
 check-area-settled κs a x y v w p q = (determined p q, refl)

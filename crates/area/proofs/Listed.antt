@@ -10,14 +10,13 @@ use borrow.Author.Tests.{ltb-true, leb-true, lt-ltb, le-ltb, le-leb}
 use Rattle.words.specs.declared.settings.Settings.{Settings}
 use Rattle.words.specs.Command.{transmits, subaddressOf}
 use Rattle.words.specs.Settings.{isBroadcast}
-use Rattle.words.proofs.Basics.{and-left, and-right, lt-or-ge}
+use Rattle.words.proofs.Basics.{and-left, and-right, lt-or-ge, or-either, not-both}
 use Rattle.memory.specs.declared.kind.Kind.{Kind}
 use Rattle.memory.specs.declared.kind.Kind.the-variants.{Receive, Transmit, Broadcast}
 use Rattle.memory.specs.Kind.{cellNumber, kindNumbered, kindOf}
 use Rattle.memory.proofs.Numbers.{number-sub, number-kind, number-below}
 use Rattle.cells.specs.Cell.{cellAt}
 use Rattle.area.specs.Area.{isRead, cellNumbered}
-use Rattle.windows.proofs.Flags.{or-either, not-both}
 
 -- "subaddresses 1-30; broadcast cells are read only if separate-broadcast is on"
 pub record Listed (s : Settings) (n : ℕ) : Type 0 where

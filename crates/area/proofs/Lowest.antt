@@ -1,13 +1,13 @@
 -- The lowest bad number: where none is found none is bad, and the one that is found is bad with none below it.
-use Prim.Native.Nat.{ℕ, zero, suc, _+_, _≤_, _<_}
+use Prim.Native.Nat.{ℕ, zero, suc, _+_, _-_, _≤_, _<_}
+use native.Mathlib.Nat.{add-zero, add-suc}
 use native.Mathlib.Omega.{arith}
-use mathlib.Core.Path.{_≡_, refl}
+use mathlib.Core.Path.{_≡_, refl, _∙_}
 use mathlib.Core.Logic.{_⊎_, ⊎-elim}
 use mathlib.Core.Bool.{Bool, true, false, cond}
 use lib.Dec.{eqb}
-use borrow.Author.Tests.{eqb-true, eqb-false}
+use borrow.Author.Tests.{eqb-true, eqb-false, ne-eqb}
 use Rattle.words.proofs.Basics.{yes-or-no, lt-or-ge}
-use Rattle.windows.proofs.Flags.{not-both}
 use Rattle.area.specs.Area.{orElse, lowest}
 use Rattle.area.proofs.Turns.{lowest-more}
 
@@ -82,6 +82,11 @@ either-zero : (b : Bool) → let zero' : ℕ = 0 in cond b zero' zero' ≡ zero'
 either-zero true = refl
 either-zero false = refl
 
+good-else : (r n : ℕ) → orElse r false n ≡ r
+unfolding orElse
+good-else r n =
+    ⊎-elim (λ (e : eqb r 0 ≡ true). rw (e, eqb-true r 0 e)) (λ (e : eqb r 0 ≡ false). rw e) (yes-or-no (eqb r 0))
+
 module _ (bad : ℕ → Bool) where
   -- number 0 is none
   pub lowest-start : lowest bad 1 ≡ 0
@@ -92,19 +97,24 @@ module _ (bad : ℕ → Bool) where
   unfolding orElse
   lowest-on i e b = rw (lowest-more bad i, e, b)
 
+  -- numbers that are not bad are passed over
+  pub lowest-same :
+      (m d : ℕ) → ((n : ℕ) → m ≤ n → n < m + d → bad n ≡ false) → lowest bad (m + d) ≡ lowest bad m
+  unfolding lowest
+  lowest-same m zero h = rw add-zero
+  lowest-same m (suc d) h =
+      rw (add-suc, h (m + d) (omega arith) (omega arith), good-else) (lowest-same m d (λ n l k. h n l (omega arith)))
+
+  -- a number found stays
+  pub lowest-stays : (m d : ℕ) → (lowest bad m ≡ 0 → ⊥) → lowest bad (m + d) ≡ lowest bad m
+  unfolding lowest orElse
+  lowest-stays m zero h = rw add-zero
+  lowest-stays m (suc d) h = rw (add-suc, lowest-stays m d h, ne-eqb (lowest bad m) 0 h)
+
   pub lowest-found : (n i : ℕ) → 0 < i → i < n → lowest bad i ≡ 0 → bad i ≡ true → lowest bad n ≡ i
+  unfolding orElse
   lowest-found n i p l e b =
-      let f = lowest-is bad n in
-      let k = lowest bad n in
-      ⊎-elim
-      (λ (z : k < 1). absurd (not-both _ b (f .none (omega arith) i p l)))
-      (λ (q : 1 ≤ k).
-      ⊎-elim
-      (λ (h : k < i). absurd (not-both _ (f .found (omega arith)) (lowest-is bad i .none e k (omega arith) h)))
-      (λ (h : i ≤ k).
-      ⊎-elim
-      (λ (g : i < k). absurd (not-both _ b (f .first i p g)))
-      (λ (g : k ≤ i). omega arith)
-      (lt-or-ge i k))
-      (lt-or-ge k i))
-      (lt-or-ge k 1)
+      let f : lowest bad (i + 1) ≡ i = rw (lowest-more bad i, e, b) in
+      let d = n - (i + 1) in
+      let e : n ≡ i + 1 + d = omega arith in
+      rw e (lowest-stays (i + 1) d (λ z. omega arith) ∙ f)

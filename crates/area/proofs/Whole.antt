@@ -14,14 +14,13 @@ use Rattle.words.specs.declared.settings.Settings.{Settings}
 use Rattle.words.specs.Command.{subaddressOf}
 use Rattle.words.specs.Refusal.{firstOf, inOrder, firstRefusal}
 use Rattle.words.specs.Settings.{settingsRefused}
-use Rattle.words.proofs.Basics.{and-left, and-right, yes-or-no, lt-or-ge}
+use Rattle.words.proofs.Basics.{and-left, and-right, yes-or-no, lt-or-ge, not-both}
 use Rattle.memory.specs.Map.{ramRefused}
 use Rattle.memory.specs.Kind.{kindOf, cellNumber}
 use Rattle.cells.specs.Cell.{cellAt, soundCell}
 use Rattle.cells.specs.Stack.{stackWindow, stackSound}
 use Rattle.area.proofs.Before.{firstFour}
 use Rattle.area.specs.Area.{isRead, cellNumbered, isUnsound, lowest, lowestUnsound, groundsWith, areaGrounds, areaRefusal, checkArea}
-use Rattle.windows.proofs.Flags.{not-both}
 use Rattle.cells.proofs.Sound.{CellSound, sound-cell-facts, cell-facts-sound}
 use Rattle.cells.proofs.Block.{StackSound, stack-sound-facts, stack-facts-sound}
 use Rattle.area.proofs.Lowest.{Lowest, lowest-is}

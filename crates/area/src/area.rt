@@ -1,18 +1,16 @@
 // The whole-area check: refusals 1, 3, 8, and 9 with the lowest unsound cell.
 ghost use mathlib.Core.Path.{_≡_};
-ghost use lib.ListN.{length};
-ghost use Rattle.area.specs.Area.{isRead, cellNumbered, isUnsound, lowestUnsound, refusedBefore, checkArea};
-use cells::cell::Cell;
+ghost use mathlib.Core.Bool.{true};
+ghost use Rattle.memory.specs.Kind.{cellNumber};
+ghost use Rattle.area.specs.Area.{isRead, isUnsound, lowest, lowestUnsound, refusedBefore, checkArea};
 use cells::cell::cell_at;
 use cells::cell::sound_cell;
 use cells::stack::stack_sound;
 use cells::stack::stack_window;
 use memory::kind::Kind;
-use memory::kind::kind_numbered;
+use memory::kind::cell_number;
 use memory::map::ram_refused;
 use windows::window::Window;
-use words::choose::both;
-use words::choose::either;
 use words::choose::no;
 use words::choose::pick;
 use words::refusal::Grounds;
@@ -26,57 +24,54 @@ pub struct Checked {
     pub cell: u16,
 }
 
-// Whether the check reads the cell with this number.
-pub fn is_read(s: Settings, number: u16) -> bool
-    ensures { λ r. ⌜ r ≡ isRead s number ⌝ }
+// The lowest unsound cell of a kind that the check reads, or 0; none of a lower number is unsound. The search ends at the first.
+fn lowest_of_kind(ram: &[u16], s: Settings, stack: Window, kind: Kind) -> u16
+    requires { ⌜ (isRead s (cellNumber kind 1) ≡ true) × (lowest (isUnsound (now ram) s stack) (cellNumber kind 1) ≡ 0) ⌝ }
+    ensures { λ r. ⌜ r ≡ lowest (isUnsound (now (ram .entry)) s stack) (cellNumber kind 31) ⌝ }
 {
-    let sub = number % 32;
-    both(
-        both(1 <= sub, sub <= 30),
-        either(number < 64, both(s.separate_broadcast, number < 96)),
-    )
-}
-
-// The cell with this number.
-pub fn cell_numbered(ram: &[u16], s: Settings, number: u16) -> Cell
-    ensures { λ r. ⌜ r ≡ cellNumbered (now (ram .entry)) s number ⌝ }
-{
-    let area = s.area;
-    cell_at(ram, area, kind_numbered(number), number % 32)
-}
-
-fn is_unsound(ram: &[u16], s: Settings, stack: Window, number: u16) -> bool
-    ensures { λ r. ⌜ r ≡ isUnsound (now (ram .entry)) s stack number ⌝ }
-{
-    if is_read(s, number) {
-        let c = cell_numbered(ram, s, number);
-        return no(sound_cell(ram.len(), stack, c));
-    }
-    false
-}
-
-// The lowest unsound cell that the check reads, or 0. The search ends at the first; number 0 is no cell that is read.
-fn lowest_unsound(ram: &[u16], s: Settings) -> u16
-    ensures { λ r. ⌜ r ≡ lowestUnsound (now (ram .entry)) s ⌝ }
-{
-    let stack = stack_window(ram, s);
-    let mut i: u16 = 1;
-    while i < 96 {
-        if is_unsound(ram, s, stack, i) {
-            return i;
+    let mut sub: u16 = 1;
+    while sub <= 30 {
+        // not before the loop, whose invariant speaks of the settings
+        let area = s.area;
+        let c = cell_at(ram, area, kind, sub);
+        if !sound_cell(ram.len(), stack, c) {
+            return cell_number(kind, sub) as u16;
         }
-        i += 1;
+        sub += 1;
     }
     0
 }
 
-// The first of 1, 3 and 8, or 0: what is tested before a cell is looked at.
+// The lowest unsound cell that the check reads, or 0. Number 0 is no cell that is read.
+fn lowest_unsound(ram: &[u16], s: Settings) -> u16
+    ensures { λ r. ⌜ r ≡ lowestUnsound (now (ram .entry)) s ⌝ }
+{
+    let stack = stack_window(ram, s);
+    let receive = lowest_of_kind(ram, s, stack, Kind::Receive);
+    if receive != 0 {
+        return receive;
+    }
+    let transmit = lowest_of_kind(ram, s, stack, Kind::Transmit);
+    if transmit != 0 {
+        return transmit;
+    }
+    if s.separate_broadcast {
+        return lowest_of_kind(ram, s, stack, Kind::Broadcast);
+    }
+    0
+}
+
+// The first of 1, 3 and 8, or 0: what is tested before a cell is looked at. RAM's length comes first and by itself: so the
+// compiler knows it wherever RAM is read, and leaves out the test of each place.
 fn refused_before(ram: &[u16], s: Settings) -> u16
     ensures { λ r. ⌜ r ≡ refusedBefore (now (ram .entry)) s ⌝ }
 {
+    if ram_refused(ram.len()) {
+        return 1;
+    }
     let sound = stack_sound(ram, s);
     first_refusal(Grounds {
-        ram: ram_refused(ram.len()),
+        ram: false,
         reply: false,
         settings: settings_refused(s),
         length: false,

@@ -15,9 +15,6 @@ cell-number-settled κs a x y v w p q = (determined p q, refl)
 pub kind-of-settled : Settled 0 kind.kind_of.Kinds.ps kind.kind_of.Kinds.r kind.kind_of.Reads.Post
 kind-of-settled κs a x y v w p q = (determined p q, refl)
 
-pub kind-numbered-settled : Settled 0 kind.kind_numbered.Kinds.ps kind.kind_numbered.Kinds.r kind.kind_numbered.Reads.Post
-kind-numbered-settled κs a x y v w p q = (determined p q, refl)
-
 pub ram-refused-settled : Settled 0 map.ram_refused.Kinds.ps map.ram_refused.Kinds.r map.ram_refused.Reads.Post
 ram-refused-settled κs a x y v w p q = (determined p q, refl)
 

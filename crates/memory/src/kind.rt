@@ -1,7 +1,7 @@
 // The kind of a cell, its number, and which kind a command uses.
 ghost use mathlib.Core.Path.{_≡_};
 ghost use mathlib.Core.Bool.{cond};
-ghost use Rattle.memory.specs.Kind.{kindNumber, cellNumber, kindOf, kindNumbered};
+ghost use Rattle.memory.specs.Kind.{kindNumber, cellNumber, kindOf};
 use words::choose::both;
 use words::command;
 use words::settings::Settings;
@@ -45,16 +45,5 @@ pub fn kind_of(s: Settings, command: u16) -> Kind
         command::transmit(command),
         Kind::Transmit,
         pick_kind(separate, Kind::Broadcast, Kind::Receive),
-    )
-}
-
-// The kind of the cell with this number.
-pub fn kind_numbered(number: u16) -> Kind
-    ensures { λ r. ⌜ r ≡ kindNumbered number ⌝ }
-{
-    pick_kind(
-        number < 32,
-        Kind::Receive,
-        pick_kind(number < 64, Kind::Transmit, Kind::Broadcast),
     )
 }

@@ -1,4 +1,3 @@
-pub mod Flags
 pub mod Wrap
 pub mod Meets
 pub mod Determined

@@ -1,66 +1,65 @@
--- `lowest_unsound` meets its contract. The loop's invariant: no number below `i` is bad.
+-- `lowest_unsound` meets its contract: three searches, each where the one before has found nothing.
 use borrow.Author.Needs.{needs}
-use native.Mathlib.Omega.{arith}
-use Prim.Native.Nat.{_≤_, _-_}
-use mathlib.Core.Path.{_≡_, sym, _∙_}
-use Rattle.area.proofs.Lowest.{lowest-start, lowest-on, lowest-found}
-use Rattle.area.specs.Area.{isUnsound, lowest, lowestUnsound}
+use mathlib.Core.Path.{refl, sym, _∙_}
+use Rattle.memory.specs.declared.kind.Kind.the-variants.{Receive, Transmit}
+use Rattle.memory.specs.Kind.{cellNumber}
+use Rattle.area.specs.Area.{isRead, lowestUnsound}
+use Rattle.area.proofs.Lowest.{lowest-start}
+use Rattle.area.proofs.ByKind.{kind-ends, after-receive, after-transmit, after-broadcast, no-broadcast}
 use Rattle.area.proofs.area.lowest_unsound.Statement.{statement}
 use Rattle.area.proofs.area.lowest_unsound.Tie as tie
 
-abbrev Inv-loop : tie.InvT-loop
-Inv-loop ram s stack i₀ i = ((1 ≤ i) × (i ≤ 96)) × (lowest (isUnsound ram s stack) i ≡ 0)
-
-abbrev μ-loop : tie.MeasureT-loop
-μ-loop ram s stack i₀ i = 96 - i
-
-stack-window-requires : tie.Need-stack-window-requires Inv-loop μ-loop
+stack-window-requires : tie.Need-stack-window-requires
 stack-window-requires c κs = search needs
 
-loop-holds : tie.Need-loop-holds Inv-loop μ-loop
-loop-holds c = ((omega arith, omega arith), lowest-start _)
+lowest-of-kind-requires : tie.Need-lowest-of-kind-requires
+unfolding isRead cellNumber
+lowest-of-kind-requires c κs = (refl, lowest-start _)
 
-is-unsound-requires : tie.Need-is-unsound-requires Inv-loop μ-loop
-is-unsound-requires c κs = search needs
-
-returns : tie.Need-returns Inv-loop μ-loop
+returns : tie.Need-returns
 unfolding lowestUnsound
 returns c =
-    let k = c .before .before .before in
-    let bad = sym (c .before .is-unsound .ensures) ∙ c .if1 .taken in
-    let f = lowest-found _ 96 (k .loop .i) (omega arith) (omega arith) (k .loop .inv .1) bad in
-    sym (rw (k .before .stack-window .ensures) at f)
+    let e = kind-ends _ _ _ Receive _ (c .before .lowest-of-kind .ensures) (c .if1 .taken) in
+    rw (c .before .before .stack-window .ensures) at e
 
-add-i : tie.Need-add-i Inv-loop μ-loop
-add-i c = search needs
+lowest-of-kind-requires-2 : tie.Need-lowest-of-kind-requires-2
+unfolding isRead cellNumber
+lowest-of-kind-requires-2 c κs =
+    (refl, after-receive _ _ _ ∙ sym (c .before .lowest-of-kind .ensures) ∙ c .if1 .left)
 
-loop-less : tie.Need-loop-less Inv-loop μ-loop
-loop-less c = search needs
-
-loop-again : tie.Need-loop-again Inv-loop μ-loop
-loop-again c =
-    let k = c .before .before .before in
-    let good = sym (c .before .is-unsound .ensures) ∙ c .if1 .left in
-    ((omega arith, omega arith), lowest-on _ _ (k .loop .inv .1) good)
-
-returns-2 : tie.Need-returns-2 Inv-loop μ-loop
+returns-2 : tie.Need-returns-2
 unfolding lowestUnsound
 returns-2 c =
-    let e : c .before .loop .i ≡ 96 = omega arith in
-    let f = rw (e, c .before .before .stack-window .ensures) at (c .before .loop .inv .1) in
-    sym f
+    let e = kind-ends _ _ _ Transmit _ (c .before .lowest-of-kind2 .ensures) (c .if2 .taken) in
+    rw (c .before .before .before .before .stack-window .ensures) at e
+
+lowest-of-kind-requires-3 : tie.Need-lowest-of-kind-requires-3
+unfolding isRead cellNumber
+lowest-of-kind-requires-3 c κs =
+    (rw (c .if3 .taken), after-transmit _ _ _ ∙ sym (c .before .before .lowest-of-kind2 .ensures) ∙ c .before .if2 .left)
+
+returns-3 : tie.Need-returns-3
+unfolding lowestUnsound cellNumber
+returns-3 c =
+    let e = c .lowest-of-kind3 .ensures ∙ sym (after-broadcast _ _ _) in
+    rw (c .before .before .before .before .before .before .stack-window .ensures) at e
+
+returns-4 : tie.Need-returns-4
+unfolding lowestUnsound cellNumber
+returns-4 c =
+    let none = sym (c .before .before .lowest-of-kind2 .ensures) ∙ c .before .if2 .left in
+    let e = sym (no-broadcast _ _ _ (c .if3 .left) ∙ none) in
+    rw (c .before .before .before .before .before .stack-window .ensures) at e
 
 pub lowest-unsound-spec : {M : Type 1} → statement M
 lowest-unsound-spec =
     tie.close
     (tie.spec
-    Inv-loop
-    μ-loop
     stack-window-requires
-    loop-holds
-    is-unsound-requires
+    lowest-of-kind-requires
     returns
-    add-i
-    loop-less
-    loop-again
-    returns-2)
+    lowest-of-kind-requires-2
+    returns-2
+    lowest-of-kind-requires-3
+    returns-3
+    returns-4)
