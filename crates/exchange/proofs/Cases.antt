@@ -22,7 +22,7 @@ use Rattle.decide.specs.Report.{blockStatus, statusWord, reportOf, interruptWor
 use Rattle.decide.specs.Plan.{deedOf, entryOf, planOf}
 use Rattle.carry.specs.Writes.{applyWrites, writesTo, pointerWrites, descriptorOf, entryWrites, deedWrites, stackWrites, writesOf}
 use Rattle.carry.specs.Reply.{replyWrites, replyWords}
-use Rattle.message.specs.Answer.{cellUnsound, groundsFor, refusalFor, refusedWith, acceptedWith, rememberedFrom, acceptedOutcome, outcomeFor, ramFor, replyFor}
+use Rattle.message.specs.Answer.{cellUnsound, groundsFor, refusalFor, refusedWith, acceptedWith, rememberedAfterPlan, acceptedOutcome, outcomeFor, ramFor, replyFor}
 use Rattle.message.specs.Message.{outcomeOfValue, ramAfterValue, replyAfterValue}
 use Rattle.message.specs.Run.{stepValue, run, effectOf, effects}
 use Rattle.exchange.specs.Order.{swapAt, exchangeAll}
@@ -155,5 +155,5 @@ expected =
     ∷ []
 
 pub computed : map seen cases ≡ expected
-unfolding wordCount isModeSubaddress stackSizeListed settingsRefused isOwn isBroadcast isNotOurs lastsZero keepsLayout firstOf inOrder firstRefusal ramRefused stackPointerPlace lookupTable busyPlace isBusyAt illegalPlace isIllegalAt runFrom aligned placeOf rollsOver meets meetsFixed cellNumber kindNumbered kindOf controlPart pickScheme schemeOf cellAt windowOf doubleFits soundCell stackPointer stackWindow stackSound isRead cellNumbered isUnsound orElse lowest lowestUnsound groundsWith areaGrounds areaRefusal checkArea expectedWords faultsOf faultsFor anyFault cellFor isIllegal isBusy targetOf withheld wordsStored wordsSent actWith actOf mayMove stride moves motionWith motionOf blockStatus statusWord reportOf interruptWord deedOf entryOf planOf applyWrites writesTo pointerWrites descriptorOf entryWrites deedWrites stackWrites writesOf replyWrites replyWords cellUnsound groundsFor refusalFor refusedWith acceptedWith rememberedFrom acceptedOutcome outcomeFor ramFor replyFor outcomeOfValue ramAfterValue replyAfterValue stepValue run effectOf effects swapAt exchangeAll wellFormed allWellFormed mayExchange allowedAt allowedAll withoutWrap withoutStackRollover rememberedLast entriesOn lastOf stackWord keptAfter stackAfter rememberedAfter startsWell takesWell asked bench plainRam startOf orderOf saidOf seen
+unfolding wordCount isModeSubaddress stackSizeListed settingsRefused isOwn isBroadcast isNotOurs lastsZero keepsLayout firstOf inOrder firstRefusal ramRefused stackPointerPlace lookupTable busyPlace isBusyAt illegalPlace isIllegalAt runFrom aligned placeOf rollsOver meets meetsFixed cellNumber kindNumbered kindOf controlPart pickScheme schemeOf cellAt windowOf doubleFits soundCell stackPointer stackWindow stackSound isRead cellNumbered isUnsound orElse lowest lowestUnsound groundsWith areaGrounds areaRefusal checkArea expectedWords faultsOf faultsFor anyFault cellFor isIllegal isBusy targetOf withheld wordsStored wordsSent actWith actOf mayMove stride moves motionWith motionOf blockStatus statusWord reportOf interruptWord deedOf entryOf planOf applyWrites writesTo pointerWrites descriptorOf entryWrites deedWrites stackWrites writesOf replyWrites replyWords cellUnsound groundsFor refusalFor refusedWith acceptedWith rememberedAfterPlan acceptedOutcome outcomeFor ramFor replyFor outcomeOfValue ramAfterValue replyAfterValue stepValue run effectOf effects swapAt exchangeAll wellFormed allWellFormed mayExchange allowedAt allowedAll withoutWrap withoutStackRollover rememberedLast entriesOn lastOf stackWord keptAfter stackAfter rememberedAfter startsWell takesWell asked bench plainRam startOf orderOf saidOf seen
 computed = refl

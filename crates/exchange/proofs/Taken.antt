@@ -20,7 +20,7 @@ use Rattle.arrival.specs.Target.{cellFor, targetOf}
 use Rattle.decide.specs.Plan.{planOf}
 use Rattle.carry.specs.Writes.{descriptorOf}
 use Rattle.carry.specs.Reply.{replyWrites, replyWords}
-use Rattle.message.specs.Answer.{cellUnsound, groundsFor, refusalFor, refusalOfValue, acceptedWith, rememberedFrom, acceptedOutcome, outcomeFor, ramFor, replyFor}
+use Rattle.message.specs.Answer.{cellUnsound, groundsFor, refusalFor, refusalOfValue, acceptedWith, rememberedAfterPlan, acceptedOutcome, outcomeFor, ramFor, replyFor}
 use Rattle.message.specs.Message.{outcomeOfValue, ramAfterValue, replyAfterValue}
 use Rattle.message.specs.Run.{State, stepValue, effectOf}
 use Rattle.message.proofs.Sure.{Sure, fine-sure}
@@ -91,7 +91,7 @@ module _ (s : Settings) (v : Record) (x : State) (g : Good s x) (f : Formed s v)
       })
 
   pub done : Done s v x
-  unfolding stepValue effectOf ramAfterValue replyAfterValue outcomeOfValue ramFor replyFor outcomeFor acceptedOutcome rememberedFrom planOf overFront
+  unfolding stepValue effectOf ramAfterValue replyAfterValue outcomeOfValue ramFor replyFor outcomeFor acceptedOutcome rememberedAfterPlan planOf overFront
   done =
       let d = deedFor (x .ram) s v in
       let z = not-refused in

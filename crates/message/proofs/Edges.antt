@@ -18,10 +18,10 @@ use Rattle.decide.specs.Report.{blockStatus, statusWord, reportOf, interruptWor
 use Rattle.decide.specs.Plan.{deedOf, entryOf, planOf}
 use Rattle.carry.specs.Writes.{applyWrites, writesTo, pointerWrites, descriptorOf, entryWrites, deedWrites, stackWrites, writesOf}
 use Rattle.carry.specs.Reply.{replyWrites, replyWords}
-use Rattle.message.specs.Answer.{cellUnsound, groundsFor, refusalFor, refusedWith, acceptedWith, rememberedFrom, acceptedOutcome, outcomeFor}
+use Rattle.message.specs.Answer.{cellUnsound, groundsFor, refusalFor, refusedWith, acceptedWith, rememberedAfterPlan, acceptedOutcome, outcomeFor}
 use Rattle.message.specs.Message.{outcomeOfValue}
 use Rattle.message.specs.Edges.{runCase, cases, expected}
 
 pub edges : map runCase cases ≡ expected
-unfolding wordCount isModeSubaddress stackSizeListed settingsRefused isOwn isBroadcast isNotOurs lastsZero keepsLayout fill firstOf inOrder firstRefusal ramRefused stackPointerPlace lookupTable busyPlace isBusyAt illegalPlace isIllegalAt cellNumber kindOf runFrom aligned placeOf rollsOver meets meetsFixed controlPart pickScheme schemeOf cellAt windowOf doubleFits soundCell stackPointer stackWindow stackSound expectedWords faultsOf faultsFor anyFault cellFor isIllegal isBusy targetOf withheld wordsStored wordsSent actWith actOf mayMove stride moves motionWith motionOf blockStatus statusWord reportOf interruptWord deedOf entryOf planOf applyWrites writesTo pointerWrites descriptorOf entryWrites deedWrites stackWrites writesOf replyWrites replyWords cellUnsound groundsFor refusalFor refusedWith acceptedWith rememberedFrom acceptedOutcome outcomeFor outcomeOfValue runCase cases expected
+unfolding wordCount isModeSubaddress stackSizeListed settingsRefused isOwn isBroadcast isNotOurs lastsZero keepsLayout fill firstOf inOrder firstRefusal ramRefused stackPointerPlace lookupTable busyPlace isBusyAt illegalPlace isIllegalAt cellNumber kindOf runFrom aligned placeOf rollsOver meets meetsFixed controlPart pickScheme schemeOf cellAt windowOf doubleFits soundCell stackPointer stackWindow stackSound expectedWords faultsOf faultsFor anyFault cellFor isIllegal isBusy targetOf withheld wordsStored wordsSent actWith actOf mayMove stride moves motionWith motionOf blockStatus statusWord reportOf interruptWord deedOf entryOf planOf applyWrites writesTo pointerWrites descriptorOf entryWrites deedWrites stackWrites writesOf replyWrites replyWords cellUnsound groundsFor refusalFor refusedWith acceptedWith rememberedAfterPlan acceptedOutcome outcomeFor outcomeOfValue runCase cases expected
 edges = refl

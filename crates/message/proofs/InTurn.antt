@@ -14,8 +14,8 @@ use Rattle.words.proofs.Refusals.{Numbered}
 use Rattle.memory.specs.Map.{ramRefused}
 use Rattle.decide.specs.Ready.{Ready}
 use Rattle.message.specs.Answer.{groundsFor, refusalFor}
-use Rattle.message.specs.Tests.{commandTests}
-use Rattle.message.specs.InTurn.{earlyTests, earlyRefusal, lateRefusal}
+use Rattle.message.specs.Tests.{earlyTests, commandTests}
+use Rattle.message.specs.InTurn.{earlyRefusal, lateRefusal}
 use Rattle.message.proofs.Accepted.{accepted-ready}
 
 -- one test more in front

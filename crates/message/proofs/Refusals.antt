@@ -17,7 +17,7 @@ use Rattle.words.specs.Refusal.{firstOf, inOrder, firstRefusal}
 use Rattle.words.proofs.Basics.{eq-or-ne}
 use Rattle.words.proofs.Refusals.{NoneHolds, First, first-zero, first-number, refusal-small}
 use Rattle.message.specs.declared.answer.Outcome.{Outcome}
-use Rattle.message.specs.Answer.{groundsFor, refusalFor, refusalOfValue, refusalOfBytes, refusedWith, acceptedWith, acceptedOutcome, outcomeFor, ramFor, replyFor}
+use Rattle.message.specs.Answer.{groundsFor, refusalFor, refusalOfValue, refusalOfBytes, refusedWith, refusedOutcome, acceptedWith, acceptedOutcome, outcomeFor, ramFor, replyFor}
 use Rattle.message.specs.Message.{outcomeOfValue, ramAfterValue, replyAfterValue, outcomeOfBytes, ramAfterBytes, replyAfterBytes}
 use Rattle.message.specs.Tests.{valueTests, bytesTests}
 
@@ -63,7 +63,7 @@ module _ (ram : List ℕ) (room : ℕ) (s : Settings) (bytes : List ℕ) where
 
 -- "Result: the number, the rest zero ..; RAM, reply and remembered state keep their contents."
 pub record Untouched (n : ℕ) (ram reply : List ℕ) (before : Remembered) (o : Outcome) (ramAfter replyAfter : List ℕ) : Type 0 where
-  pub outcome : o ≡ record { answer = refusedWith n; remembered = before }
+  pub outcome : o ≡ refusedOutcome n before
   pub words : ramAfter ≡ ram
   pub buffer : replyAfter ≡ reply
 

@@ -92,16 +92,19 @@ acceptedWith p =
     }
 
 -- "It and the command are remembered after every accepted message"
-unfoldable pub rememberedFrom : Plan → Record → Remembered
-rememberedFrom p v = record { command = v .command; status = p .deed .report .status }
+unfoldable pub rememberedAfterPlan : Plan → Record → Remembered
+rememberedAfterPlan p v = record { command = v .command; status = p .deed .report .status }
 
 unfoldable pub acceptedOutcome : Plan → Record → Outcome
-acceptedOutcome p v = record { answer = acceptedWith p; remembered = rememberedFrom p v }
+acceptedOutcome p v = record { answer = acceptedWith p; remembered = rememberedAfterPlan p v }
+
+abbrev pub refusedOutcome : ℕ → Remembered → Outcome
+refusedOutcome number before = record { answer = refusedWith number; remembered = before }
 
 -- the answer and the remembered state, by the number that the tests gave
 unfoldable pub outcomeFor : ℕ → List ℕ → Settings → Remembered → Record → Outcome
 outcomeFor number ram s before v =
-    cond (eqb number 0) (acceptedOutcome (planOf ram s v) v) (record { answer = refusedWith number; remembered = before })
+    cond (eqb number 0) (acceptedOutcome (planOf ram s v) v) (refusedOutcome number before)
 
 -- every word of RAM afterwards; of a refusal, "RAM, reply and remembered state keep their contents"
 unfoldable pub ramFor : ℕ → List ℕ → Settings → Record → List ℕ

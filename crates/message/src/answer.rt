@@ -1,7 +1,7 @@
 // What a message answers, and the cases that refuse it: each is worked out only where none before it holds.
 ghost use mathlib.Core.Path.{_≡_};
-ghost use Rattle.message.specs.Answer.{cellUnsound, refusedWith, acceptedWith, acceptedOutcome, rememberedFrom};
-ghost use Rattle.message.specs.InTurn.{earlyRefusal, lateRefusal, refusedOutcome};
+ghost use Rattle.message.specs.Answer.{cellUnsound, refusedWith, refusedOutcome, acceptedWith, acceptedOutcome};
+ghost use Rattle.message.specs.InTurn.{earlyRefusal, lateRefusal};
 use arrival::target::cell_for;
 use cells::cell::sound_cell;
 use cells::stack::stack_sound;
