@@ -167,17 +167,6 @@ module _ (ram : List ℕ) (s : Settings) (v : Record) (f : Sure ram s (v .comman
       own-scheme own-window (rw own-pointer (c .below))
       (λ e. rw own-pointer (c .multiple e (f .cell .double e)))
 
-  -- "The pointer stays in its window"
-  pub pointer-stays-from : cellWindow (cellFor ram s (v .command)) .start ≤ cellFor after s (v .command) .pointer
-  unfolding targetOf
-  pointer-stays-from = rw own-pointer (own-contained .from)
-
-  pub pointer-stays-below :
-      cellFor after s (v .command) .pointer
-      < cellWindow (cellFor ram s (v .command)) .start + cellWindow (cellFor ram s (v .command)) .size
-  unfolding targetOf
-  pointer-stays-below = rw own-pointer (own-contained .below)
-
   window-stays :
       (kind : Kind) (sub : ℕ) →
       sub < 32 →

@@ -5,7 +5,7 @@ pub mod Only
 pub mod Accepted
 pub mod Refusals
 pub mod InTurn
-pub mod FromValue
+pub mod FromRecord
 pub mod FromBytes
 pub mod Edges
 pub mod Determined

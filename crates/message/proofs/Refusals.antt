@@ -1,6 +1,6 @@
 -- "0 is done. No other case is refused." Each entry point's number is 0 exactly when none of its tests holds, and n exactly
 -- when its test n is the first that holds; and a refusal changes nothing.
-use Prim.Native.Nat.{ℕ, _≤_}
+use Prim.Native.Nat.{ℕ}
 use native.Mathlib.Omega.{arith}
 use mathlib.Core.Path.{_≡_, refl}
 use mathlib.Core.Logic.{_↔_, ⊎-elim}
@@ -15,7 +15,7 @@ use Rattle.words.specs.declared.settings.Remembered.{Remembered}
 use Rattle.layout.specs.Layout.{valueIn}
 use Rattle.words.specs.Refusal.{firstOf, inOrder, firstRefusal}
 use Rattle.words.proofs.Basics.{eq-or-ne}
-use Rattle.words.proofs.Refusals.{NoneHolds, First, first-zero, first-number, refusal-small}
+use Rattle.words.proofs.Refusals.{NoneHolds, First, first-zero, first-number}
 use Rattle.message.specs.declared.answer.Outcome.{Outcome}
 use Rattle.message.specs.Answer.{groundsFor, refusalFor, refusalOfValue, refusalOfBytes, refusedWith, refusedOutcome, acceptedWith, acceptedOutcome, outcomeFor, ramFor, replyFor}
 use Rattle.message.specs.Message.{outcomeOfValue, ramAfterValue, replyAfterValue, outcomeOfBytes, ramAfterBytes, replyAfterBytes}
@@ -38,10 +38,6 @@ module _ (ram : List ℕ) (room : ℕ) (s : Settings) (v : Record) where
   pub value-refused : (n : ℕ) → (n ≡ 0 → ⊥) → (refusalOfValue ram room s v ≡ n) ↔ First (valueTests ram room s v) n
   value-refused n m = rw value-first (first-number (valueTests ram room s v) n m)
 
-  pub value-small : refusalOfValue ram room s v ≤ 9
-  unfolding refusalFor
-  value-small = refusal-small _
-
 module _ (ram : List ℕ) (room : ℕ) (s : Settings) (bytes : List ℕ) where
   bytes-first : refusalOfBytes ram room s bytes ≡ firstOf (bytesTests ram room s bytes)
   unfolding refusalFor groundsFor firstRefusal inOrder firstOf
@@ -57,10 +53,6 @@ module _ (ram : List ℕ) (room : ℕ) (s : Settings) (bytes : List ℕ) where
       (n : ℕ) → (n ≡ 0 → ⊥) → (refusalOfBytes ram room s bytes ≡ n) ↔ First (bytesTests ram room s bytes) n
   bytes-refused n m = rw bytes-first (first-number (bytesTests ram room s bytes) n m)
 
-  pub bytes-small : refusalOfBytes ram room s bytes ≤ 9
-  unfolding refusalFor
-  bytes-small = refusal-small _
-
 -- "Result: the number, the rest zero ..; RAM, reply and remembered state keep their contents."
 pub record Untouched (n : ℕ) (ram reply : List ℕ) (before : Remembered) (o : Outcome) (ramAfter replyAfter : List ℕ) : Type 0 where
   pub outcome : o ≡ refusedOutcome n before
@@ -72,7 +64,7 @@ module _ (n : ℕ) (ram reply : List ℕ) (s : Settings) (before : Remembered) (
   unfolding outcomeFor acceptedOutcome acceptedWith refusedWith
   number-told = ⊎-elim (λ z. rw z) (λ m. rw (ne-eqb n 0 m)) (eq-or-ne n 0)
 
-  untouched : (n ≡ 0 → ⊥) → Untouched n ram reply before (outcomeFor n ram s before v) (ramFor n ram s v) (replyFor n ram reply s v)
+  pub untouched : (n ≡ 0 → ⊥) → Untouched n ram reply before (outcomeFor n ram s before v) (ramFor n ram s v) (replyFor n ram reply s v)
   unfolding outcomeFor ramFor replyFor
   untouched m = let e = ne-eqb n 0 m in record { outcome = rw e; words = rw e; buffer = rw e }
 

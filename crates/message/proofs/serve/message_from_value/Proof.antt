@@ -1,9 +1,11 @@
 -- `message_from_value` meets its contract: no test 4, and 5 where the value breaks the layout.
 use borrow.Author.Needs.{needs}
+use native.Mathlib.Omega.{arith}
 use mathlib.Core.Path.{_≡_, _∙_, sym}
 use mathlib.Core.Bool.{true, false, not}
 use Rattle.records.specs.Value.{keepsLayout}
-use Rattle.message.proofs.FromValue.{value-early, value-layout, outcome-late, ram-late, reply-late}
+use Rattle.message.specs.Message.{outcomeOfValue, ramAfterValue, replyAfterValue}
+use Rattle.message.proofs.FromRecord.{stops-early, stops-behind, number-late}
 use Rattle.message.proofs.serve.message_from_value.Statement.{statement}
 use Rattle.message.proofs.serve.message_from_value.Tie as tie
 
@@ -14,10 +16,11 @@ refused-outcome-requires : tie.Need-refused-outcome-requires
 refused-outcome-requires c κs = search needs
 
 returns : tie.Need-returns
+unfolding outcomeOfValue ramAfterValue replyAfterValue
 returns c =
     let a = c .before .before .before .before .before .args in
     let u =
-    value-early (a .ram .now) (a .reply .now) (a .s) (a .before) (a .v) _
+    stops-early (a .ram .now) (a .reply .now) (a .s) (a .before) false (not (keepsLayout (a .v))) (a .v) _
     (c .before .before .early-refusal .ensures) (c .before .if1 .taken) in
     (c .refused-outcome .ensures ∙ sym (u .outcome), (sym (u .words), sym (u .buffer)))
 
@@ -31,13 +34,16 @@ refused-outcome-requires-2 : tie.Need-refused-outcome-requires-2
 refused-outcome-requires-2 c κs = search needs
 
 returns-2 : tie.Need-returns-2
+unfolding outcomeOfValue ramAfterValue replyAfterValue
 returns-2 c =
     let t = c .before .before .before .before in
     let a = t .before .before .before .before .args in
     let passed = sym (t .before .early-refusal .ensures) ∙ t .if1 .left in
     let broken : not (keepsLayout (a .v)) ≡ true =
     rw (← (c .before .before .before .keeps-layout .ensures), ← (c .before .before .no .ensures)) (c .before .if2 .taken) in
-    let u = value-layout (a .ram .now) (a .reply .now) (a .s) (a .before) (a .v) passed broken in
+    let u =
+    stops-behind (a .ram .now) (a .reply .now) (a .s) (a .before) false (not (keepsLayout (a .v))) (a .v) passed 5 (rw broken)
+    (λ e. omega arith) in
     (c .refused-outcome2 .ensures ∙ sym (u .outcome), (sym (u .words), sym (u .buffer)))
 
 serve-requires : tie.Need-serve-requires
@@ -50,6 +56,7 @@ same-length-2 : tie.Need-same-length-2
 same-length-2 c = search needs
 
 returns-3 : tie.Need-returns-3
+unfolding outcomeOfValue ramAfterValue replyAfterValue
 returns-3 c =
     let t = c .before .before .before .before .before .before .before .before .before .before in
     let a = t .before .before .before .before .args in
@@ -57,13 +64,9 @@ returns-3 c =
     let n = c .before .before .before .before .before .before .before in
     let kept : not (keepsLayout (a .v)) ≡ false =
     rw (← (n .before .before .keeps-layout .ensures), ← (n .before .no .ensures)) (n .if2 .left) in
-    let k = c .before .before .before .before .serve .ensures in (
-      k .0 ∙ outcome-late (a .ram .now) (a .reply .now) (a .s) (a .before) (a .v) passed kept,
-      (
-        k .1 .0 ∙ ram-late (a .ram .now) (a .reply .now) (a .s) (a .before) (a .v) passed kept,
-        k .1 .1 ∙ reply-late (a .ram .now) (a .reply .now) (a .s) (a .before) (a .v) passed kept,
-      ),
-    )
+    let number = number-late (a .ram .now) (a .reply .now) (a .s) (a .before) false (not (keepsLayout (a .v))) (a .v) passed (rw kept) in
+    let k = c .before .before .before .before .serve .ensures in
+    (rw number (k .0), (rw number (k .1 .0), rw number (k .1 .1)))
 
 pub message-from-value-spec : {M : Type 1} → statement M
 message-from-value-spec =
