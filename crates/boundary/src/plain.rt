@@ -9,12 +9,12 @@ ghost use Rattle.layout.specs.Layout.{fill};
 ghost use Rattle.records.specs.Value.{zeroWords};
 ghost use lib.Seq.{sets};
 ghost use mathlib.Core.List.{[], _∷_};
+use memory::map::bit_of;
 use memory::ram::put;
 use memory::ram::word_at;
 use message::answer::Answer;
 use message::answer::Outcome;
 use records::value::Record;
-use words::choose::pick;
 use words::settings::Area;
 use words::settings::Remembered;
 use words::settings::Settings;
@@ -85,7 +85,7 @@ fn put_answer(xs: &mut [u16], a: Answer)
     ensures { λ r. ⌜ now (xs .exit) ≡ answerInto (now (xs .entry)) a ⌝ }
 {
     put(xs, 8, a.interrupt);
-    put_four(xs, 4, a.after, a.status, pick(a.answered, 1, 0), a.sent);
+    put_four(xs, 4, a.after, a.status, bit_of(a.answered), a.sent);
     put_four(xs, 0, a.number, a.block_status, a.cell, a.before);
 }
 

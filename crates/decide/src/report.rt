@@ -1,13 +1,13 @@
 // Rules 7 to 9: block status, status word, interrupt word.
 ghost use mathlib.Core.Path.{_≡_};
 ghost use Prim.Native.Nat.{_≤_};
-ghost use Rattle.memory.specs.Map.{bitOf};
 ghost use Rattle.decide.specs.Report.{blockStatus, statusWord, reportOf, interruptWord};
 use arrival::fault::Faults;
 use arrival::fault::any_fault;
 use arrival::target::Target;
 use deed::deed::Act;
 use deed::deed::Motion;
+use memory::map::bit_of;
 use records::value::Record;
 use records::value::bus_b;
 use words::choose::both;
@@ -20,12 +20,6 @@ pub struct Report {
     pub status: u16,
     // whether the status is sent: RT 0's clean status is 0000, so "none" has a mark of its own
     pub answered: bool,
-}
-
-fn bit_of(b: bool) -> u16
-    ensures { λ r. ⌜ (r ≡ bitOf b) × (r ≤ 1) ⌝ }
-{
-    if b { 1 } else { 0 }
 }
 
 fn block_status(second_bus: bool, f: Faults, rollover: bool, illegal: bool) -> u16

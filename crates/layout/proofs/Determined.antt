@@ -6,6 +6,9 @@ use Rattle.layout.proofs.reader
 use Rattle.layout.proofs.round_trip
 use Rattle.layout.proofs.writer
 
+pub join-settled : Settled 0 reader.join.Kinds.ps reader.join.Kinds.r reader.join.Reads.Post
+join-settled κs a x y v w p q = (determined p q, refl)
+
 pub read-settled : Settled 1 reader.read.Kinds.ps reader.read.Kinds.r reader.read.Reads.Post
 read-settled κs a x y v w p q = (determined p q, refl)
 

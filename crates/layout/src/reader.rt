@@ -16,7 +16,8 @@ pub struct Reading {
     pub value: Record,
 }
 
-fn join(high: u8, low: u8) -> u16
+// Two bytes as a word, high byte first.
+pub fn join(high: u8, low: u8) -> u16
     ensures { λ r. ⌜ r ≡ high * 256 + low ⌝ }
 {
     (high as u16) * 256 + (low as u16)

@@ -31,7 +31,7 @@ pub fn lookup_table(area: Area) -> usize
     }
 }
 
-fn one_if(b: bool) -> usize
+pub fn bit_of(b: bool) -> u16
     ensures { λ r. ⌜ (r ≡ bitOf b) × (r ≤ 1) ⌝ }
 {
     if b { 1 } else { 0 }
@@ -47,7 +47,8 @@ fn busy_place(own: bool, command: u16) -> usize
     ensures { λ r. ⌜ r ≡ busyPlace own command ⌝ }
 {
     let sub = command::subaddress(command);
-    0x240 + 4 * one_if(own) + 2 * one_if(command::transmit(command)) + (sub / 16) as usize
+    let place = 0x240 + 4 * bit_of(own) + 2 * bit_of(command::transmit(command)) + sub / 16;
+    place as usize
 }
 
 fn illegal_place(own: bool, command: u16) -> usize
@@ -55,11 +56,12 @@ fn illegal_place(own: bool, command: u16) -> usize
 {
     let sub = command::subaddress(command);
     let field = command::count_field(command);
-    0x300
-        + 128 * one_if(own)
-        + 64 * one_if(command::transmit(command))
-        + 2 * (sub as usize)
-        + (field / 16) as usize
+    let place = 0x300
+        + 128 * bit_of(own)
+        + 64 * bit_of(command::transmit(command))
+        + 2 * sub
+        + field / 16;
+    place as usize
 }
 
 // Bit `bit` of `word`.

@@ -6,6 +6,7 @@ ghost use Rattle.layout.specs.Layout.{wordAt};
 ghost use Rattle.text.specs.Text.{Put};
 ghost use Rattle.text.specs.Line.{imageLine};
 ghost use Rattle.trace.specs.Output.{programSettings, imageInto, lastLines};
+use layout::reader::join;
 use text::line::put_end;
 use text::line::put_image;
 use text::line::put_tail;
@@ -35,12 +36,6 @@ fn byte_at(bytes: &[u8], i: usize) -> u8
     ensures { λ r. ⌜ r ≡ getD (now (bytes .entry)) i 0 ⌝ }
 {
     if i < bytes.len() { bytes[i] } else { 0 }
-}
-
-fn join(high: u8, low: u8) -> u16
-    ensures { λ r. ⌜ r ≡ high * 256 + low ⌝ }
-{
-    (high as u16) * 256 + (low as u16)
 }
 
 fn image_word(bytes: &[u8], i: usize) -> u16

@@ -1,7 +1,6 @@
 -- `put_answer` meets its contract: nine words in a row.
 use borrow.Author.Needs.{needs}
 use Rattle.boundary.specs.Boundary.{answerWords, answerInto}
-use Rattle.memory.proofs.Bits.{bit-of}
 use Rattle.boundary.proofs.Over.{nine-back}
 use Rattle.boundary.proofs.plain.put_answer.Statement.{statement}
 use Rattle.boundary.proofs.plain.put_answer.Tie as tie
@@ -9,8 +8,8 @@ use Rattle.boundary.proofs.plain.put_answer.Tie as tie
 put-requires : tie.Need-put-requires
 put-requires c κs = search needs
 
-pick-requires : tie.Need-pick-requires
-pick-requires c κs = search needs
+bit-of-requires : tie.Need-bit-of-requires
+bit-of-requires c κs = search needs
 
 put-four-requires : tie.Need-put-four-requires
 put-four-requires c κs = search needs
@@ -26,14 +25,13 @@ unfolding answerInto answerWords
 returns c =
     rw (
       nine-back,
-      bit-of,
       c .before .before .put-four2 .ensures,
       c .before .before .before .before .before .before .put-four .ensures,
-      c .before .before .before .before .before .before .before .pick .ensures,
+      c .before .before .before .before .before .before .before .bit-of .ensures .0,
       c .before .before .before .before .before .before .before .before .before .before .before .put .ensures,
     )
 
 pub put-answer-spec : {M : Type 1} → statement M
 put-answer-spec =
     tie.close
-    (tie.spec put-requires pick-requires put-four-requires put-four-requires-2 same-length returns)
+    (tie.spec put-requires bit-of-requires put-four-requires put-four-requires-2 same-length returns)

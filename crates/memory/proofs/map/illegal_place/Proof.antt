@@ -10,49 +10,46 @@ subaddress-requires c κs = search needs
 count-field-requires : tie.Need-count-field-requires
 count-field-requires c κs = search needs
 
-one-if-requires : tie.Need-one-if-requires
-one-if-requires c κs = search needs
+bit-of-requires : tie.Need-bit-of-requires
+bit-of-requires c κs = search needs
 
-mul-result : tie.Need-mul-result
-mul-result c = search needs
+mul-place : tie.Need-mul-place
+mul-place c = search needs
 
-add-result : tie.Need-add-result
-add-result c = search needs
+add-place : tie.Need-add-place
+add-place c = search needs
 
 transmit-requires : tie.Need-transmit-requires
 transmit-requires c κs = search needs
 
-one-if-requires-2 : tie.Need-one-if-requires-2
-one-if-requires-2 c κs = search needs
+bit-of-requires-2 : tie.Need-bit-of-requires-2
+bit-of-requires-2 c κs = search needs
 
-mul-result-2 : tie.Need-mul-result-2
-mul-result-2 c = search needs
+mul-place-2 : tie.Need-mul-place-2
+mul-place-2 c = search needs
 
-add-result-2 : tie.Need-add-result-2
-add-result-2 c = search needs
+add-place-2 : tie.Need-add-place-2
+add-place-2 c = search needs
+
+mul-place-3 : tie.Need-mul-place-3
+mul-place-3 c = search needs
+
+add-place-3 : tie.Need-add-place-3
+add-place-3 c = search needs
+
+add-place-4 : tie.Need-add-place-4
+add-place-4 c = search needs
 
 cast-result : tie.Need-cast-result
 cast-result c = search needs
-
-mul-result-3 : tie.Need-mul-result-3
-mul-result-3 c = search needs
-
-add-result-3 : tie.Need-add-result-3
-add-result-3 c = search needs
-
-cast-result-2 : tie.Need-cast-result-2
-cast-result-2 c = search needs
-
-add-result-4 : tie.Need-add-result-4
-add-result-4 c = search needs
 
 returns : tie.Need-returns
 unfolding illegalPlace
 returns c =
     rw (
-      c .one-if2 .ensures .0,
+      c .bit-of2 .ensures .0,
       c .before .transmit .ensures,
-      c .before .before .one-if .ensures .0,
+      c .before .before .bit-of .ensures .0,
       c .before .before .before .count-field .ensures,
       c .before .before .before .before .subaddress .ensures,
     )
@@ -63,16 +60,15 @@ illegal-place-spec =
     (tie.spec
     subaddress-requires
     count-field-requires
-    one-if-requires
-    mul-result
-    add-result
+    bit-of-requires
+    mul-place
+    add-place
     transmit-requires
-    one-if-requires-2
-    mul-result-2
-    add-result-2
+    bit-of-requires-2
+    mul-place-2
+    add-place-2
+    mul-place-3
+    add-place-3
+    add-place-4
     cast-result
-    mul-result-3
-    add-result-3
-    cast-result-2
-    add-result-4
     returns)
