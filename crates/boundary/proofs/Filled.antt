@@ -1,6 +1,6 @@
 -- Words filled in from a slice that may end early: past its end there is nothing to fill in.
 use Prim.Native.Nat.{ℕ, zero, suc, _+_, _-_, _≤_, min}
-use native.Mathlib.Nat.{add-zero, add-suc}
+use native.Mathlib.Nat.{zero-add, add-zero, add-suc}
 use native.Mathlib.Omega.{arith}
 use mathlib.Core.Path.{_≡_, sym, _∙_}
 use mathlib.Core.Logic.{⊎-elim}
@@ -8,9 +8,9 @@ use mathlib.Core.List.{List}
 use lib.ListN.{length, getD, set, getD-replicate, List·getD-eq-default}
 use lib.Seq.{set-getD}
 use Rattle.words.proofs.Basics.{lt-or-ge}
+use Rattle.records.specs.Fill.{fillFrom, fill}
 use Rattle.records.specs.Value.{zeroWords}
-use Rattle.layout.specs.Layout.{fill}
-use Rattle.layout.proofs.Copied.{fill-later}
+use Rattle.records.proofs.Fill.{fill-later}
 
 zero-at : (k : ℕ) → getD zeroWords k 0 ≡ 0
 zero-at k =
@@ -21,12 +21,12 @@ zero-at k =
 
 fill-end :
     (f : ℕ → ℕ) (n d : ℕ) → ((k : ℕ) → n ≤ k → f k ≡ 0) → fill f zeroWords (n + d) ≡ fill f zeroWords n
-unfolding fill
+unfolding fillFrom
 fill-end f n zero h = rw add-zero
 fill-end f n (suc d) h =
     let same : f (n + d) ≡ getD (fill f zeroWords (n + d)) (n + d) 0 =
     h (n + d) (omega arith) ∙ sym (fill-later f zeroWords (n + d) (n + d) (omega arith) ∙ zero-at (n + d)) in
-    rw (add-suc, same, set-getD) (fill-end f n d h)
+    rw (add-suc, zero-add, same, set-getD) (fill-end f n d h)
 
 -- the 32 words are filled in once k of them reach the end or are all
 pub fill-whole :

@@ -1,42 +1,36 @@
--- Words put over others: one more at a time, none past the end, and from the last to the first.
+-- Words put over others: none past the end, and from the last to the first.
 use Prim.Native.Nat.{ℕ, zero, suc, _+_, _-_, _≤_, _<_, min}
 use native.Mathlib.Nat.{add-zero, add-suc}
-use native.Mathlib.Numerals.{add-one, unary-clauses}
+use native.Mathlib.Numerals.{unary-clauses}
 use native.Mathlib.Omega.{arith}
 use mathlib.Core.Path.{_≡_, refl, sym, _∙_}
 use mathlib.Core.Logic.{⊎-elim}
 use mathlib.Core.List.{List, [], _∷_}
-use lib.ListN.{length, getD, set, length-set}
+use lib.ListN.{length, set}
 use lib.Seq.{sets, set-comm, set-out}
 use Rattle.words.proofs.Basics.{lt-or-ge}
-use Rattle.boundary.specs.Boundary.{over}
-
-pub over-more : (xs ys : List ℕ) (from n : ℕ) → over xs ys from (n + 1) ≡ set (over xs ys from n) (from + n) (getD ys n 0)
-unfolding over
-over-more xs ys from n = rw add-one
-
-pub length-over : (xs ys : List ℕ) (from n : ℕ) → length (over xs ys from n) ≡ length xs
-unfolding over
-length-over xs ys from zero = refl
-length-over xs ys from (suc n) = length-set (over xs ys from n) (from + n) (getD ys n 0) ∙ length-over xs ys from n
+use Rattle.records.specs.Fill.{fillFrom}
+use Rattle.records.proofs.Fill.{length-fill}
 
 -- where the first n reach the end, the next d change nothing
-pub over-end : (xs ys : List ℕ) (from n d : ℕ) → length xs ≤ from + n → over xs ys from (n + d) ≡ over xs ys from n
-unfolding over
-over-end xs ys from n zero h = rw add-zero
-over-end xs ys from n (suc d) h =
+fill-past :
+    (from : ℕ) (f : ℕ → ℕ) (xs : List ℕ) (n d : ℕ) → length xs ≤ from + n → fillFrom from f xs (n + d) ≡ fillFrom from f xs n
+unfolding fillFrom
+fill-past from f xs n zero h = rw add-zero
+fill-past from f xs n (suc d) h =
     rw add-suc
-    (set-out (over xs ys from (n + d)) (from + (n + d)) (getD ys (n + d) 0) (omega (arith, length-over xs ys from (n + d)))
-    ∙ over-end xs ys from n d h)
+    (set-out (fillFrom from f xs (n + d)) (from + (n + d)) (f (n + d)) (omega (arith, length-fill from f xs (n + d)))
+    ∙ fill-past from f xs n d h)
 
 -- n words are put once k of them reach the end or are all
-pub over-whole :
-    (xs ys : List ℕ) (from k n : ℕ) → k ≤ n → min (length xs) (from + n) ≤ from + k → over xs ys from k ≡ over xs ys from n
-over-whole xs ys from k n h e =
+pub fill-room :
+    (from : ℕ) (f : ℕ → ℕ) (xs : List ℕ) (k n : ℕ) → k ≤ n → min (length xs) (from + n) ≤ from + k →
+    fillFrom from f xs k ≡ fillFrom from f xs n
+fill-room from f xs k n h e =
     let m : n ≡ k + (n - k) = omega arith in
     ⊎-elim
     (λ short. let s : n ≡ k = omega arith in rw s)
-    (λ end. rw m (sym (over-end xs ys from k (n - k) end)))
+    (λ end. rw m (sym (fill-past from f xs k (n - k) end)))
     (lt-or-ge (from + k) (length xs))
 
 -- the words of ys from place i on, the last of them first

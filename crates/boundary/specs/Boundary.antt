@@ -1,8 +1,8 @@
 -- How settings, remembered state, answers and record values pass as plain words, for callers in C and Rust.
-use Prim.Native.Nat.{ℕ, zero, suc, _+_, _*_, min}
+use Prim.Native.Nat.{ℕ, _+_, _*_, min}
 use mathlib.Core.Bool.{Bool, not, cond}
 use mathlib.Core.List.{List, [], _∷_}
-use lib.ListN.{length, getD, set}
+use lib.ListN.{getD}
 use lib.Seq.{sets}
 use lib.Dec.{eqb}
 use Rattle.words.specs.declared.settings.Settings.{Settings}
@@ -10,7 +10,7 @@ use Rattle.words.specs.declared.settings.Area.{Area}
 use Rattle.words.specs.declared.settings.Area.the-variants.{A, B}
 use Rattle.words.specs.declared.settings.Remembered.{Remembered}
 use Rattle.records.specs.declared.value.Record.{Record}
-use Rattle.layout.specs.Layout.{fill}
+use Rattle.records.specs.Fill.{fillFrom, fill}
 use Rattle.records.specs.Value.{zeroWords}
 use Rattle.area.specs.declared.area.Checked.{Checked}
 use Rattle.memory.specs.Map.{bitOf}
@@ -84,13 +84,10 @@ valueFrom xs =
       words = fill (λ k. getD xs (4 + k) 0) zeroWords 32;
     }
 
--- the first n words of ys put over those of xs
-unfoldable pub over : List ℕ → List ℕ → ℕ → ℕ → List ℕ
-over xs ys from zero = xs
-over xs ys from (suc n) = set (over xs ys from n) (from + n) (getD ys n 0)
-
 unfoldable pub valueInto : List ℕ → Record → List ℕ
-valueInto xs v = over (sets xs 0 (v .command ∷ v .tag ∷ v .flags ∷ v .count ∷ [])) (v .words) 4 32
+valueInto xs v =
+    fillFrom 4 (λ k. getD (v .words) k 0) (sets xs 0 (v .command ∷ v .tag ∷ v .flags ∷ v .count ∷ [])) 32
 
+-- the first n bytes of ys put over those of xs
 abbrev pub bytesInto : List ℕ → List ℕ → ℕ → List ℕ
-bytesInto xs ys n = over xs ys 0 n
+bytesInto xs ys n = fill (λ k. getD ys k 0) xs n

@@ -4,8 +4,8 @@
 ghost use mathlib.Core.Path.{_≡_};
 ghost use Prim.Native.Nat.{min, _+_, _≤_};
 ghost use lib.ListN.{getD};
-ghost use Rattle.boundary.specs.Boundary.{areaFrom, settingsFrom, rememberedFrom, rememberedInto, answerInto, over, valueFrom, valueInto, bytesInto};
-ghost use Rattle.layout.specs.Layout.{fill};
+ghost use Rattle.boundary.specs.Boundary.{areaFrom, settingsFrom, rememberedFrom, rememberedInto, answerInto, valueFrom, valueInto, bytesInto};
+ghost use Rattle.records.specs.Fill.{fillFrom, fill};
 ghost use Rattle.records.specs.Value.{zeroWords};
 ghost use lib.Seq.{sets};
 ghost use mathlib.Core.List.{[], _∷_};
@@ -142,7 +142,7 @@ pub(crate) fn value_from(xs: &[u16]) -> Record
 }
 
 fn put_words(xs: &mut [u16], words: [u16; 32])
-    ensures { λ r. ⌜ now (xs .exit) ≡ over (now (xs .entry)) words 4 32 ⌝ }
+    ensures { λ r. ⌜ now (xs .exit) ≡ fillFrom 4 (λ k. getD words k 0) (now (xs .entry)) 32 ⌝ }
 {
     let room = smaller(xs.len(), 36);
     let mut k: usize = 0;

@@ -1,28 +1,21 @@
 -- Words copied with the low byte first and then exchanged byte for byte: the words as the layout has them.
-use Prim.Native.Nat.{ℕ, zero, suc, _+_, _*_, _/_, _%_, _<_, _≤_}
+use Prim.Native.Nat.{ℕ, _+_, _*_, _/_, _%_, _<_, _≤_}
 use native.Mathlib.Omega.{arith}
 use mathlib.Core.Path.{_≡_, refl, sym, _∙_}
 use mathlib.Core.List.{List}
 use lib.ListN.{length, getD}
-use lib.Seq.{getD-set-other, ext-getD}
+use lib.Seq.{ext-getD}
+use Rattle.records.specs.Fill.{fill}
 use Rattle.records.specs.Value.{zeroWords}
-use Rattle.layout.specs.Layout.{wordAt, fill}
-use Rattle.layout.proofs.Places.{length-fill, fill-at}
-
--- a place that is not yet filled in
-pub fill-later : (f : ℕ → ℕ) (xs : List ℕ) (n k : ℕ) → n ≤ k → getD (fill f xs n) k 0 ≡ getD xs k 0
-unfolding fill
-fill-later f xs zero k h = refl
-fill-later f xs (suc n) k h =
-    let p : (k ≡ n → ⊥) = λ e. omega arith in
-    getD-set-other (fill f xs n) n k (f n) 0 p ∙ fill-later f xs n k (omega arith)
+use Rattle.records.proofs.Fill.{length-fill, fill-at, fill-later}
+use Rattle.layout.specs.Layout.{wordAt}
 
 -- a list that is filled in whole has nothing left of what it was
 fill-anew : (f : ℕ → ℕ) (xs ys : List ℕ) (n : ℕ) → length xs ≡ n → length ys ≡ n → fill f xs n ≡ fill f ys n
 fill-anew f xs ys n p q =
-    ext-getD 0 (fill f xs n) (fill f ys n) (length-fill f xs n ∙ p ∙ sym (length-fill f ys n ∙ q))
+    ext-getD 0 (fill f xs n) (fill f ys n) (length-fill 0 f xs n ∙ p ∙ sym (length-fill 0 f ys n ∙ q))
     (λ k h.
-    let l : k < n = omega (arith, length-fill f xs n) in
+    let l : k < n = omega (arith, length-fill 0 f xs n) in
     fill-at f xs n k (omega arith) l ∙ sym (fill-at f ys n k (omega arith) l))
 
 exchanged : (h l : ℕ) → h < 256 → l < 256 → (l * 256 + h) % 256 * 256 + (l * 256 + h) / 256 ≡ h * 256 + l
@@ -49,4 +42,4 @@ pub exchanged-all :
     (s copied : List ℕ) → copied ≡ fill (lowFirst s) zeroWords 32 →
     fill (highFirst s) copied 32 ≡ fill (highFirst s) zeroWords 32
 exchanged-all s copied p =
-    fill-anew (highFirst s) copied zeroWords 32 (rw p (length-fill (lowFirst s) zeroWords 32)) refl
+    fill-anew (highFirst s) copied zeroWords 32 (rw p (length-fill 0 (lowFirst s) zeroWords 32)) refl

@@ -11,11 +11,13 @@ use borrow.Author.Count.{below-none, below-more}
 use Rattle.records.specs.declared.value.Record.{Record}
 use Rattle.layout.specs.declared.reader.Reading.{Reading}
 use Rattle.layout.specs.declared.writer.Written.{Written}
+use Rattle.records.specs.Fill.{fill}
 use Rattle.records.specs.Value.{zeroWords, keepsLayout}
-use Rattle.layout.specs.Layout.{wordAt, areZero, fill, wordsIn, valueIn, breaksLayout, readRecord, notRead}
+use Rattle.records.proofs.Fill.{length-fill, fill-at}
+use Rattle.layout.specs.Layout.{wordAt, areZero, wordsIn, valueIn, breaksLayout, readRecord, notRead}
 use Rattle.layout.specs.Writing.{zeroBytes, headerOf, putWord, putWords, bytesOf, writeRecord}
 use Rattle.words.proofs.Basics.{yes-or-no, lt-or-ge, eq-or-ne}
-use Rattle.layout.proofs.Places.{length-fill, fill-at, length-put, put-before, put-high, put-low, are-zero-at, Kept, layout-kept}
+use Rattle.layout.proofs.Places.{length-put, put-before, put-high, put-low, are-zero-at, Kept, layout-kept}
 use Rattle.layout.proofs.Cases.{read-length, read-layout, read-good, write-layout, write-good}
 
 -- what the type `Record` says of a value
@@ -67,7 +69,7 @@ unfolding wordsIn bytesOf
 words-back v t =
     let b = bytesOf v in
     let f : ℕ → ℕ = λ k. wordAt b (16 + 2 * k) in
-    let l : length (fill f zeroWords 32) ≡ 32 = length-fill f zeroWords 32 in
+    let l : length (fill f zeroWords 32) ≡ 32 = length-fill 0 f zeroWords 32 in
     ext-getD 0 (fill f zeroWords 32) (v .words) (l ∙ sym (t .many))
     (λ k h.
     let i : k < 32 = omega arith in
@@ -134,7 +136,7 @@ header-same s b g =
 
 words-length : (s : List ℕ) → length (wordsIn s) ≡ 32
 unfolding wordsIn
-words-length s = length-fill _ zeroWords 32
+words-length s = length-fill 0 _ zeroWords 32
 
 word-at : (s : List ℕ) (k : ℕ) → k < 32 → getD (wordsIn s) k 0 ≡ wordAt s (16 + 2 * k)
 unfolding wordsIn

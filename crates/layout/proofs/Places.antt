@@ -11,25 +11,9 @@ use lib.Dec.{ltb, leb}
 use borrow.Author.Tests.{eq-eqb, eqb-true, lt-ltb, le-ltb, le-leb, leb-true, not-false}
 use Rattle.records.specs.declared.value.Record.{Record}
 use Rattle.records.specs.Value.{lastsZero, keepsLayout}
-use Rattle.layout.specs.Layout.{areZero, fill, valueIn, breaksLayout}
+use Rattle.layout.specs.Layout.{areZero, valueIn, breaksLayout}
 use Rattle.layout.specs.Writing.{putWords}
 use Rattle.words.proofs.Basics.{lt-or-ge, eq-or-ne, and-left, and-right}
-
-pub length-fill : (f : ℕ → ℕ) (xs : List ℕ) (n : ℕ) → length (fill f xs n) ≡ length xs
-unfolding fill
-length-fill f xs zero = refl
-length-fill f xs (suc n) = simp length-set (length-fill f xs n)
-
-pub fill-at : (f : ℕ → ℕ) (xs : List ℕ) (n k : ℕ) → n ≤ length xs → k < n → getD (fill f xs n) k 0 ≡ f k
-unfolding fill
-fill-at f xs zero k h l = omega arith
-fill-at f xs (suc n) k h l =
-    ⊎-elim
-    (λ e.
-    let p : n < length (fill f xs n) = omega (arith, length-fill f xs n) in
-    rw e (getD-set-same (fill f xs n) n (f n) 0 p))
-    (λ ne. getD-set-other (fill f xs n) n k (f n) 0 ne ∙ fill-at f xs n k (omega arith) (omega arith))
-    (eq-or-ne k n)
 
 pub length-put : (s words : List ℕ) (n : ℕ) → length (putWords s words n) ≡ length s
 unfolding putWords

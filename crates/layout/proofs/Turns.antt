@@ -4,19 +4,15 @@ use native.Mathlib.Numerals.{add-one}
 use mathlib.Core.Path.{_≡_}
 use mathlib.Core.Bool.{_&&_}
 use mathlib.Core.List.{List}
-use lib.ListN.{getD, set}
+use lib.ListN.{getD}
 use lib.Dec.{eqb}
-use Rattle.layout.specs.Layout.{areZero, fill}
+use Rattle.layout.specs.Layout.{areZero}
 use Rattle.layout.specs.Writing.{putWord, putWords}
 
 pub are-zero-more :
     (s : List ℕ) (from n : ℕ) → areZero s from (n + 1) ≡ (areZero s from n && eqb (getD s (from + n) 0) 0)
 unfolding areZero
 are-zero-more s from n = rw add-one
-
-pub fill-more : (f : ℕ → ℕ) (xs : List ℕ) (n : ℕ) → fill f xs (n + 1) ≡ set (fill f xs n) n (f n)
-unfolding fill
-fill-more f xs n = rw add-one
 
 pub put-words-more :
     (s words : List ℕ) (n : ℕ) →

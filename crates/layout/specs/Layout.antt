@@ -2,10 +2,11 @@
 use Prim.Native.Nat.{ℕ, zero, suc, _+_, _*_}
 use mathlib.Core.Bool.{Bool, true, not, cond, _&&_}
 use mathlib.Core.List.{List, [], _∷_}
-use lib.ListN.{length, getD, set}
+use lib.ListN.{length, getD}
 use lib.Dec.{eqb}
 use Rattle.records.specs.declared.value.Record.{Record}
 use Rattle.layout.specs.declared.reader.Reading.{Reading}
+use Rattle.records.specs.Fill.{fill}
 use Rattle.records.specs.Value.{zeroWords, zeroValue, keepsLayout}
 use Rattle.words.specs.Refusal.{firstOf}
 
@@ -17,11 +18,6 @@ wordAt s i = getD s i 0 * 256 + getD s (i + 1) 0
 unfoldable pub areZero : List ℕ → ℕ → ℕ → Bool
 areZero s from zero = true
 areZero s from (suc n) = areZero s from n && eqb (getD s (from + n) 0) 0
-
--- the list xs with f k at each place k below n
-unfoldable pub fill : (ℕ → ℕ) → List ℕ → ℕ → List ℕ
-fill f xs zero = xs
-fill f xs (suc n) = set (fill f xs n) n (f n)
 
 -- "16-79 thirty-two words"
 unfoldable pub wordsIn : List ℕ → List ℕ

@@ -2,7 +2,8 @@
 ghost use mathlib.Core.Path.{_≡_};
 ghost use Prim.Native.Nat.{_+_, _*_, _/_, _%_, _≤_};
 ghost use lib.ListN.{length, getD};
-ghost use Rattle.layout.specs.Layout.{wordAt, areZero, fill, wordsIn, valueIn, breaksLayout, readRecord, notRead};
+ghost use Rattle.layout.specs.Layout.{wordAt, areZero, wordsIn, valueIn, breaksLayout, readRecord, notRead};
+ghost use Rattle.records.specs.Fill.{fill};
 ghost use Rattle.records.specs.Value.{zeroWords};
 use records::value::Record;
 use records::value::keeps_layout;

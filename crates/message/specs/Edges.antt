@@ -10,7 +10,7 @@ use Rattle.words.specs.declared.settings.Area.the-variants.{A}
 use Rattle.words.specs.Command.{subaddressOf, countField}
 use Rattle.words.specs.Settings.{nothingRemembered, isOwn}
 use Rattle.records.specs.Value.{zeroWords}
-use Rattle.layout.specs.Layout.{fill}
+use Rattle.records.specs.Fill.{fill}
 use Rattle.memory.specs.Map.{illegalPlace, busyPlace}
 use Rattle.message.specs.declared.answer.Answer.{Answer}
 use Rattle.message.specs.declared.answer.Outcome.{Outcome}

@@ -8,7 +8,8 @@ use lib.Dec.{ltb}
 use Rattle.words.specs.declared.settings.Settings.{Settings}
 use Rattle.words.specs.declared.settings.Area.the-variants.{A}
 use Rattle.words.specs.Settings.{nothingRemembered}
-use Rattle.layout.specs.Layout.{fill, wordAt}
+use Rattle.records.specs.Fill.{fill}
+use Rattle.layout.specs.Layout.{wordAt}
 use Rattle.text.specs.Line.{tailLine, endLine, imageLine}
 use Rattle.trace.specs.Walk.{Walk, walkStart, walkAll, anew}
 

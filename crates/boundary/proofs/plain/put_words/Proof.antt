@@ -1,16 +1,17 @@
 -- `put_words` meets its contract. The loop's invariant: the first `k` words are put.
 use borrow.Author.Needs.{needs}
 use native.Mathlib.Omega.{arith}
-use Prim.Native.Nat.{_≤_, _-_}
+use Prim.Native.Nat.{ℕ, _≤_, _-_}
 use mathlib.Core.Path.{_≡_, refl, _∙_}
-use lib.ListN.{length}
-use Rattle.boundary.specs.Boundary.{over}
-use Rattle.boundary.proofs.Over.{over-more, over-whole}
+use lib.ListN.{length, getD}
+use Rattle.records.specs.Fill.{fillFrom}
+use Rattle.records.proofs.Fill.{fill-from-more}
+use Rattle.boundary.proofs.Over.{fill-room}
 use Rattle.boundary.proofs.plain.put_words.Statement.{statement}
 use Rattle.boundary.proofs.plain.put_words.Tie as tie
 
 abbrev Inv-loop : tie.InvT-loop
-Inv-loop xs₀ words room k₀ xs k = (k ≤ 32) × ((length xs ≡ length xs₀) × (xs ≡ over xs₀ words 4 k))
+Inv-loop xs₀ words room k₀ xs k = (k ≤ 32) × ((length xs ≡ length xs₀) × (xs ≡ fillFrom 4 (λ j. getD words j 0) xs₀ k))
 
 abbrev μ-loop : tie.MeasureT-loop
 μ-loop xs₀ words room k₀ xs k = 32 - k
@@ -19,7 +20,7 @@ smaller-requires : tie.Need-smaller-requires Inv-loop μ-loop
 smaller-requires c κs = search needs
 
 loop-holds : tie.Need-loop-holds Inv-loop μ-loop
-unfolding over
+unfolding fillFrom
 loop-holds c = (omega arith, (refl, refl))
 
 add-loop : tie.Need-add-loop Inv-loop μ-loop
@@ -47,7 +48,7 @@ loop-less : tie.Need-loop-less Inv-loop μ-loop
 loop-less c = search needs
 
 loop-again : tie.Need-loop-again Inv-loop μ-loop
-loop-again c = (omega arith, (search needs, rw (over-more, ← c .before .loop .inv .1 .1)))
+loop-again c = (omega arith, (search needs, rw (fill-from-more, ← c .before .loop .inv .1 .1)))
 
 same-length : tie.Need-same-length Inv-loop μ-loop
 same-length c = search needs
@@ -55,7 +56,8 @@ same-length c = search needs
 returns : tie.Need-returns Inv-loop μ-loop
 returns c =
     let a = c .before .before .before .before .args in
-    c .before .loop .inv .1 .1 ∙ over-whole (a .xs .now) (a .t2) 4 (c .before .loop .k) 32 (omega arith) (omega arith)
+    let f : ℕ → ℕ = λ j. getD (a .t2) j 0 in
+    c .before .loop .inv .1 .1 ∙ fill-room 4 f (a .xs .now) (c .before .loop .k) 32 (omega arith) (omega arith)
 
 pub put-words-spec : {M : Type 1} → statement M
 put-words-spec =

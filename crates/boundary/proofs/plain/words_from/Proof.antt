@@ -4,8 +4,8 @@ use native.Mathlib.Omega.{arith}
 use Prim.Native.Nat.{_≤_, _-_, _+_}
 use mathlib.Core.Path.{_≡_, refl, _∙_}
 use lib.ListN.{getD, replicate}
-use Rattle.layout.specs.Layout.{fill}
-use Rattle.layout.proofs.Turns.{fill-more}
+use Rattle.records.specs.Fill.{fillFrom, fill}
+use Rattle.records.proofs.Fill.{fill-more}
 use Rattle.boundary.proofs.Filled.{fill-whole}
 use Rattle.boundary.proofs.plain.words_from.Statement.{statement}
 use Rattle.boundary.proofs.plain.words_from.Tie as tie
@@ -20,7 +20,7 @@ smaller-requires : tie.Need-smaller-requires Inv-loop μ-loop
 smaller-requires c κs = search needs
 
 loop-holds : tie.Need-loop-holds Inv-loop μ-loop
-unfolding fill
+unfolding fillFrom
 loop-holds c = (omega arith, refl)
 
 add-loop : tie.Need-add-loop Inv-loop μ-loop

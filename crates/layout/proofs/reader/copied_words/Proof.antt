@@ -4,8 +4,8 @@ use native.Mathlib.Omega.{arith}
 use Prim.Native.Nat.{_≤_, _-_, _+_, _*_}
 use mathlib.Core.Path.{_≡_, refl}
 use lib.ListN.{getD, replicate}
-use Rattle.layout.specs.Layout.{fill}
-use Rattle.layout.proofs.Turns.{fill-more}
+use Rattle.records.specs.Fill.{fillFrom, fill}
+use Rattle.records.proofs.Fill.{fill-more}
 use Rattle.layout.proofs.reader.copied_words.Statement.{statement}
 use Rattle.layout.proofs.reader.copied_words.Tie as tie
 
@@ -17,7 +17,7 @@ abbrev μ-loop : tie.MeasureT-loop
 μ-loop s words₀ i₀ words i = 32 - i
 
 loop-holds : tie.Need-loop-holds Inv-loop μ-loop
-unfolding fill
+unfolding fillFrom
 loop-holds c = (omega arith, refl)
 
 mul-join : tie.Need-mul-join Inv-loop μ-loop

@@ -3,8 +3,9 @@ use borrow.Author.Needs.{needs}
 use native.Mathlib.Omega.{arith}
 use Prim.Native.Nat.{_≤_, _-_, _+_, _*_}
 use mathlib.Core.Path.{_≡_, refl, _∙_}
-use Rattle.layout.specs.Layout.{wordAt, fill, wordsIn}
-use Rattle.layout.proofs.Turns.{fill-more}
+use Rattle.layout.specs.Layout.{wordAt, wordsIn}
+use Rattle.records.specs.Fill.{fillFrom, fill}
+use Rattle.records.proofs.Fill.{fill-more}
 use Rattle.layout.proofs.Copied.{exchange-next, exchanged-all}
 use Rattle.layout.proofs.reader.words_in.Statement.{statement}
 use Rattle.layout.proofs.reader.words_in.Tie as tie
@@ -19,7 +20,7 @@ copied-words-requires : tie.Need-copied-words-requires Inv-loop μ-loop
 copied-words-requires c κs = search needs
 
 loop-holds : tie.Need-loop-holds Inv-loop μ-loop
-unfolding fill
+unfolding fillFrom
 loop-holds c = (omega arith, refl)
 
 mul-exchange-bytes : tie.Need-mul-exchange-bytes Inv-loop μ-loop

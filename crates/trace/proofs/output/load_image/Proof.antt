@@ -5,8 +5,9 @@ use mathlib.Core.Path.{_≡_, refl}
 use lib.ListN.{length, length-set}
 use denote.Ref.{now}
 use borrow.Author.Needs.{needs}
-use Rattle.layout.proofs.Turns.{fill-more}
-use Rattle.layout.specs.Layout.{wordAt, fill}
+use Rattle.records.specs.Fill.{fillFrom, fill}
+use Rattle.records.proofs.Fill.{fill-more}
+use Rattle.layout.specs.Layout.{wordAt}
 use Rattle.trace.specs.Output.{imageInto}
 use Rattle.trace.proofs.output.load_image.Statement.{statement}
 use Rattle.trace.proofs.output.load_image.Tie as tie
@@ -19,7 +20,7 @@ abbrev μ-loop : tie.MeasureT-loop
 μ-loop ram₀ bytes i₀ ram i = length ram₀ - i
 
 loop-holds : tie.Need-loop-holds Inv-loop μ-loop
-unfolding fill
+unfolding fillFrom
 loop-holds c = (omega arith, (refl, refl))
 
 mul-image-word : tie.Need-mul-image-word Inv-loop μ-loop
