@@ -11,7 +11,7 @@ use crate::terminal::boundary::{
     ANSWER_WORDS, VALUE_WORDS,
 };
 use crate::terminal::records::RECORD_BYTES;
-use crate::terminal::{Answer, Record, Remembered, Settings};
+use crate::terminal::{Answer, MessageRef, Record, Remembered, Settings};
 
 /// The whole-area check: the number, and the lowest unsound cell beside 9.
 pub fn check_area(ram: &[u16], settings: &Settings) -> (u16, u16) {
@@ -19,34 +19,26 @@ pub fn check_area(ram: &[u16], settings: &Settings) -> (u16, u16) {
     ((answer >> 16) as u16, answer as u16)
 }
 
-/// Carries out the message of a record's bytes.
-pub fn message_from_bytes(
+/// Carries out a message.
+pub fn carry_out(
     ram: &mut [u16],
     reply: &mut [u16],
     settings: &Settings,
     remembered: Remembered,
-    bytes: &[u8],
+    message: MessageRef,
 ) -> (Answer, Remembered) {
     let mut memory = remembered_words(remembered);
     let mut answer = [0; ANSWER_WORDS];
     let settings = settings_words(settings);
-    boundary::message(ram, reply, &settings, &mut memory, bytes, &mut answer);
-    (answer_of(&answer), remembered_of(&memory))
-}
-
-/// Carries out the message of a record value.
-pub fn message_from_record(
-    ram: &mut [u16],
-    reply: &mut [u16],
-    settings: &Settings,
-    remembered: Remembered,
-    record: &Record,
-) -> (Answer, Remembered) {
-    let mut memory = remembered_words(remembered);
-    let mut answer = [0; ANSWER_WORDS];
-    let settings = settings_words(settings);
-    let value = value_words(record);
-    boundary::message_value(ram, reply, &settings, &mut memory, &value, &mut answer);
+    match message {
+        MessageRef::Bytes(bytes) => {
+            boundary::message(ram, reply, &settings, &mut memory, bytes, &mut answer);
+        }
+        MessageRef::Value(record) => {
+            let value = value_words(record);
+            boundary::message_value(ram, reply, &settings, &mut memory, &value, &mut answer);
+        }
+    }
     (answer_of(&answer), remembered_of(&memory))
 }
 

@@ -12,7 +12,7 @@ pub mod trace;
 pub mod words;
 
 pub use cells::check_area;
-pub use message::{message_from_bytes, message_from_record, Answer, Remembered};
+pub use message::{carry_out, carry_out_planted, Answer, MessageRef, Remembered};
 pub use planted::Planted;
 pub use records::{read_record, write_record, Record};
 pub use settings::Settings;

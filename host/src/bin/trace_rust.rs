@@ -14,7 +14,7 @@ const USAGE: &str = "usage: trace_rust [--changes]";
 fn main() -> ExitCode {
     let arguments: Vec<String> = env::args().skip(1).collect();
     let done = match arguments.iter().map(String::as_str).collect::<Vec<_>>()[..] {
-        [] => stream_trace(io::stdin().lock(), io::stdout().lock()),
+        [] => stream_trace(&mut io::stdin().lock(), &mut io::stdout().lock()),
         ["--changes"] => show_changes(),
         _ => Err(io::Error::new(io::ErrorKind::InvalidInput, USAGE)),
     };

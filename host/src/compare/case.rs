@@ -6,7 +6,7 @@ use std::fmt::Write;
 use super::sides::Side;
 use crate::terminal::cells::RAM_WORDS;
 use crate::terminal::records::RECORD_BYTES;
-use crate::terminal::{Answer, Record, Remembered, Settings};
+use crate::terminal::{Answer, MessageRef, Record, Remembered, Settings};
 
 /// Words behind those that are lent; no terminal may touch them.
 pub const GUARD_WORDS: usize = 64;
@@ -71,18 +71,17 @@ pub fn ask(side: &impl Side, state: &mut State, request: &Request) -> Answers {
     let ram = &mut state.ram[..request.ram_words];
     let reply = &mut state.reply[..request.reply_words];
     let area = request.checks_area.then(|| side.check_area(ram, settings));
-    let (read, written, (answer, remembered)) = match &request.message {
-        Message::Bytes(bytes) => (
-            Some(side.read_record(bytes)),
-            None,
-            side.message_from_bytes(ram, reply, settings, state.remembered, bytes),
-        ),
-        Message::Value(record) => (
-            None,
-            Some(side.write_record(record)),
-            side.message_from_record(ram, reply, settings, state.remembered, record),
-        ),
+    let (read, written, message) = match &request.message {
+        Message::Bytes(bytes) => {
+            let read = side.read_record(bytes);
+            (Some(read), None, MessageRef::Bytes(bytes))
+        }
+        Message::Value(record) => {
+            let written = side.write_record(record);
+            (None, Some(written), MessageRef::Value(record))
+        }
     };
+    let (answer, remembered) = side.carry_out(ram, reply, settings, state.remembered, message);
     state.remembered = remembered;
     Answers {
         area,

@@ -1,9 +1,9 @@
 //! The sides of a comparison: what a terminal is asked.
 
-use crate::terminal::message::{planted_message, planted_message_from_record};
 use crate::terminal::records::RECORD_BYTES;
 use crate::terminal::{
-    check_area, read_record, write_record, Answer, Planted, Record, Remembered, Settings,
+    carry_out_planted, check_area, read_record, write_record, Answer, MessageRef, Planted, Record,
+    Remembered, Settings,
 };
 
 /// A terminal that can be compared with another.
@@ -11,22 +11,13 @@ pub trait Side {
     /// The number, and the lowest unsound cell beside 9.
     fn check_area(&self, ram: &[u16], settings: &Settings) -> (u16, u16);
 
-    fn message_from_bytes(
+    fn carry_out(
         &self,
         ram: &mut [u16],
         reply: &mut [u16],
         settings: &Settings,
         remembered: Remembered,
-        bytes: &[u8],
-    ) -> (Answer, Remembered);
-
-    fn message_from_record(
-        &self,
-        ram: &mut [u16],
-        reply: &mut [u16],
-        settings: &Settings,
-        remembered: Remembered,
-        record: &Record,
+        message: MessageRef,
     ) -> (Answer, Remembered);
 
     /// The number, and the value, zero where it is refused.
@@ -44,40 +35,31 @@ impl Side for Plain {
         check_area(ram, settings)
     }
 
-    fn message_from_bytes(
+    fn carry_out(
         &self,
         ram: &mut [u16],
         reply: &mut [u16],
         settings: &Settings,
         remembered: Remembered,
-        bytes: &[u8],
+        message: MessageRef,
     ) -> (Answer, Remembered) {
-        planted_message(self.0, ram, reply, settings, remembered, bytes)
-    }
-
-    fn message_from_record(
-        &self,
-        ram: &mut [u16],
-        reply: &mut [u16],
-        settings: &Settings,
-        remembered: Remembered,
-        record: &Record,
-    ) -> (Answer, Remembered) {
-        planted_message_from_record(self.0, ram, reply, settings, remembered, record)
+        carry_out_planted(self.0, ram, reply, settings, remembered, message)
     }
 
     fn read_record(&self, bytes: &[u8]) -> (u16, Record) {
-        match read_record(bytes) {
-            Ok(record) => (0, record),
-            Err(number) => (number, Record::default()),
-        }
+        numbered(read_record(bytes), Record::default())
     }
 
     fn write_record(&self, record: &Record) -> (u16, [u8; RECORD_BYTES]) {
-        match write_record(record) {
-            Ok(bytes) => (0, bytes),
-            Err(number) => (number, [0; RECORD_BYTES]),
-        }
+        numbered(write_record(record), [0; RECORD_BYTES])
+    }
+}
+
+/// The number beside what came of it, which is `zero` where it is refused.
+fn numbered<T>(outcome: Result<T, u16>, zero: T) -> (u16, T) {
+    match outcome {
+        Ok(value) => (0, value),
+        Err(number) => (number, zero),
     }
 }
 
@@ -91,26 +73,15 @@ impl Side for Proved {
         crate::engine::check_area(ram, settings)
     }
 
-    fn message_from_bytes(
+    fn carry_out(
         &self,
         ram: &mut [u16],
         reply: &mut [u16],
         settings: &Settings,
         remembered: Remembered,
-        bytes: &[u8],
+        message: MessageRef,
     ) -> (Answer, Remembered) {
-        crate::engine::message_from_bytes(ram, reply, settings, remembered, bytes)
-    }
-
-    fn message_from_record(
-        &self,
-        ram: &mut [u16],
-        reply: &mut [u16],
-        settings: &Settings,
-        remembered: Remembered,
-        record: &Record,
-    ) -> (Answer, Remembered) {
-        crate::engine::message_from_record(ram, reply, settings, remembered, record)
+        crate::engine::carry_out(ram, reply, settings, remembered, message)
     }
 
     fn read_record(&self, bytes: &[u8]) -> (u16, Record) {

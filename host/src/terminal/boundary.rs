@@ -5,8 +5,8 @@
 //! A slice may have any length: missing words are read as 0, and words for
 //! which there is no room are dropped.
 
-use super::records::{RECORD_BYTES, RECORD_WORDS};
-use super::{Answer, Record, Remembered, Settings};
+use super::records::RECORD_WORDS;
+use super::{carry_out, Answer, MessageRef, Record, Remembered, Settings};
 
 /// Words of the settings: see the header for each.
 pub const SETTINGS_WORDS: usize = 11;
@@ -39,7 +39,7 @@ pub fn message(
 ) {
     let settings = settings_of(settings);
     let before = remembered_of(remembered);
-    let outcome = super::message_from_bytes(ram, reply, &settings, before, bytes);
+    let outcome = carry_out(ram, reply, &settings, before, MessageRef::Bytes(bytes));
     put_outcome(outcome, remembered, answer);
 }
 
@@ -56,35 +56,43 @@ pub fn message_value(
     let settings = settings_of(settings);
     let before = remembered_of(remembered);
     let record = record_of(value);
-    let outcome = super::message_from_record(ram, reply, &settings, before, &record);
+    let outcome = carry_out(ram, reply, &settings, before, MessageRef::Value(&record));
     put_outcome(outcome, remembered, answer);
 }
 
 /// The record reader: 0, 4 or 5, and the value's words.
 #[inline(never)]
 pub fn read(bytes: &[u8], value: &mut [u16]) -> u16 {
-    let (number, record) = match super::read_record(bytes) {
-        Ok(record) => (0, record),
-        Err(number) => (number, Record::default()),
-    };
-    put(value, &value_words(&record));
-    number
+    let read = super::read_record(bytes);
+    put_or_zero(value, read.map(|record| value_words(&record)))
 }
 
 /// The record writer: 0 or 5, and the record's bytes.
 #[inline(never)]
 pub fn write(value: &[u16], bytes: &mut [u8]) -> u16 {
-    let (number, written) = match super::write_record(&record_of(value)) {
-        Ok(written) => (0, written),
-        Err(number) => (number, [0; RECORD_BYTES]),
-    };
-    put(bytes, &written);
-    number
+    put_or_zero(bytes, super::write_record(&record_of(value)))
 }
 
 fn put_outcome(outcome: (Answer, Remembered), remembered: &mut [u16], answer: &mut [u16]) {
     put(remembered, &remembered_words(outcome.1));
     put(answer, &answer_words(&outcome.0));
+}
+
+/// Puts what came of it, or zeros where a number refuses; returns the number.
+fn put_or_zero<T: Copy + Default, const LENGTH: usize>(
+    slice: &mut [T],
+    outcome: Result<[T; LENGTH], u16>,
+) -> u16 {
+    match outcome {
+        Ok(items) => {
+            put(slice, &items);
+            0
+        }
+        Err(number) => {
+            put(slice, &[T::default(); LENGTH]);
+            number
+        }
+    }
 }
 
 /// Puts items at the front of a slice, as far as it goes.

@@ -6,7 +6,10 @@ use super::cells::{
     check_ram, lookup_place, stack_pointer_place, Cell, Kind, Scheme, Stack, DESCRIPTOR_WORDS,
     RAM_WORDS,
 };
-use super::planted::Planted;
+use super::planted::{
+    with_planted, Planted, FAULTY_STORES_WHEN_DISABLED, NONE, POINTER_AFTER_IN_DESCRIPTOR,
+    ROLLOVER_WHEN_KEPT_BACK, WRAP_BY_WORD_COUNT, ZERO_COUNT_IS_NONE,
+};
 use super::records::{
     read_record, Record, FLAG_BUS_B, FLAG_INVALID_WORD, FLAG_WRONG_SYNC, RECORD_WORDS,
 };
@@ -40,99 +43,59 @@ pub struct Answer {
     pub interrupt: u16,
 }
 
-/// Carries out the message of an 80-byte record.
-pub fn message_from_bytes(
+/// A message, as the bytes of a record or as its value.
+#[derive(Clone, Copy, Debug)]
+pub enum MessageRef<'a> {
+    Bytes(&'a [u8]),
+    Value(&'a Record),
+}
+
+/// Carries out a message.
+#[inline(always)]
+pub fn carry_out(
     ram: &mut [u16],
     reply: &mut [u16],
     settings: &Settings,
     remembered: Remembered,
-    bytes: &[u8],
+    message: MessageRef,
 ) -> (Answer, Remembered) {
-    from_bytes::<NONE>(ram, reply, settings, remembered, bytes)
+    carry_out_with::<NONE>(ram, reply, settings, remembered, message)
 }
 
-/// Carries out the message of a record value.
-pub fn message_from_record(
-    ram: &mut [u16],
-    reply: &mut [u16],
-    settings: &Settings,
-    remembered: Remembered,
-    record: &Record,
-) -> (Answer, Remembered) {
-    from_record::<NONE>(ram, reply, settings, remembered, record)
-}
-
-/// [`message_from_bytes`] of a terminal with an error planted in it.
-pub fn planted_message(
+/// [`carry_out`] of a terminal with an error planted in it.
+pub fn carry_out_planted(
     planted: Planted,
     ram: &mut [u16],
     reply: &mut [u16],
     settings: &Settings,
     remembered: Remembered,
-    bytes: &[u8],
+    message: MessageRef,
 ) -> (Answer, Remembered) {
-    let run = match planted {
-        Planted::None => from_bytes::<NONE>,
-        Planted::PointerAfterInDescriptor => from_bytes::<POINTER_AFTER_IN_DESCRIPTOR>,
-        Planted::RolloverWhenKeptBack => from_bytes::<ROLLOVER_WHEN_KEPT_BACK>,
-        Planted::WrapByWordCount => from_bytes::<WRAP_BY_WORD_COUNT>,
-        Planted::FaultyStoresWhenDisabled => from_bytes::<FAULTY_STORES_WHEN_DISABLED>,
-        Planted::ZeroCountIsNone => from_bytes::<ZERO_COUNT_IS_NONE>,
+    with_planted!(
+        planted,
+        carry_out_with(ram, reply, settings, remembered, message)
+    )
+}
+
+/// [`carry_out_planted`] with the error as a constant. Inlined, so that a
+/// caller who knows how the message comes does not ask again.
+#[inline(always)]
+pub(super) fn carry_out_with<const PLANTED: u8>(
+    ram: &mut [u16],
+    reply: &mut [u16],
+    settings: &Settings,
+    remembered: Remembered,
+    message: MessageRef,
+) -> (Answer, Remembered) {
+    let lent = check_lent(ram, reply, settings);
+    let outcome = match message {
+        MessageRef::Bytes(bytes) => lent
+            .and_then(|()| read_record(bytes))
+            .and_then(|record| perform::<PLANTED>(ram, reply, settings, &record)),
+        MessageRef::Value(record) => lent
+            .and_then(|()| record.check())
+            .and_then(|()| perform::<PLANTED>(ram, reply, settings, record)),
     };
-    run(ram, reply, settings, remembered, bytes)
-}
-
-/// [`message_from_record`] of a terminal with an error planted in it.
-pub fn planted_message_from_record(
-    planted: Planted,
-    ram: &mut [u16],
-    reply: &mut [u16],
-    settings: &Settings,
-    remembered: Remembered,
-    record: &Record,
-) -> (Answer, Remembered) {
-    let run = match planted {
-        Planted::None => from_record::<NONE>,
-        Planted::PointerAfterInDescriptor => from_record::<POINTER_AFTER_IN_DESCRIPTOR>,
-        Planted::RolloverWhenKeptBack => from_record::<ROLLOVER_WHEN_KEPT_BACK>,
-        Planted::WrapByWordCount => from_record::<WRAP_BY_WORD_COUNT>,
-        Planted::FaultyStoresWhenDisabled => from_record::<FAULTY_STORES_WHEN_DISABLED>,
-        Planted::ZeroCountIsNone => from_record::<ZERO_COUNT_IS_NONE>,
-    };
-    run(ram, reply, settings, remembered, record)
-}
-
-// The values of the constant parameter `PLANTED` below.
-const NONE: u8 = Planted::None as u8;
-const POINTER_AFTER_IN_DESCRIPTOR: u8 = Planted::PointerAfterInDescriptor as u8;
-const ROLLOVER_WHEN_KEPT_BACK: u8 = Planted::RolloverWhenKeptBack as u8;
-const WRAP_BY_WORD_COUNT: u8 = Planted::WrapByWordCount as u8;
-const FAULTY_STORES_WHEN_DISABLED: u8 = Planted::FaultyStoresWhenDisabled as u8;
-const ZERO_COUNT_IS_NONE: u8 = Planted::ZeroCountIsNone as u8;
-
-fn from_bytes<const PLANTED: u8>(
-    ram: &mut [u16],
-    reply: &mut [u16],
-    settings: &Settings,
-    remembered: Remembered,
-    bytes: &[u8],
-) -> (Answer, Remembered) {
-    let outcome = check_lent(ram, reply, settings)
-        .and_then(|()| read_record(bytes))
-        .and_then(|record| perform::<PLANTED>(ram, reply, settings, &record));
-    settle(outcome, remembered)
-}
-
-fn from_record<const PLANTED: u8>(
-    ram: &mut [u16],
-    reply: &mut [u16],
-    settings: &Settings,
-    remembered: Remembered,
-    record: &Record,
-) -> (Answer, Remembered) {
-    let outcome = check_lent(ram, reply, settings)
-        .and_then(|()| record.check())
-        .and_then(|()| perform::<PLANTED>(ram, reply, settings, record));
     settle(outcome, remembered)
 }
 

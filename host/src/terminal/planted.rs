@@ -52,3 +52,27 @@ impl Planted {
         })
     }
 }
+
+// The errors as values of a constant parameter.
+pub(super) const NONE: u8 = Planted::None as u8;
+pub(super) const POINTER_AFTER_IN_DESCRIPTOR: u8 = Planted::PointerAfterInDescriptor as u8;
+pub(super) const ROLLOVER_WHEN_KEPT_BACK: u8 = Planted::RolloverWhenKeptBack as u8;
+pub(super) const WRAP_BY_WORD_COUNT: u8 = Planted::WrapByWordCount as u8;
+pub(super) const FAULTY_STORES_WHEN_DISABLED: u8 = Planted::FaultyStoresWhenDisabled as u8;
+pub(super) const ZERO_COUNT_IS_NONE: u8 = Planted::ZeroCountIsNone as u8;
+
+/// Calls a function that takes the error as a constant parameter.
+macro_rules! with_planted {
+    ($planted:expr, $function:ident $arguments:tt) => {{
+        use $crate::terminal::planted::*;
+        match $planted {
+            Planted::None => $function::<NONE> $arguments,
+            Planted::PointerAfterInDescriptor => $function::<POINTER_AFTER_IN_DESCRIPTOR> $arguments,
+            Planted::RolloverWhenKeptBack => $function::<ROLLOVER_WHEN_KEPT_BACK> $arguments,
+            Planted::WrapByWordCount => $function::<WRAP_BY_WORD_COUNT> $arguments,
+            Planted::FaultyStoresWhenDisabled => $function::<FAULTY_STORES_WHEN_DISABLED> $arguments,
+            Planted::ZeroCountIsNone => $function::<ZERO_COUNT_IS_NONE> $arguments,
+        }
+    }};
+}
+pub(super) use with_planted;

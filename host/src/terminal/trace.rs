@@ -3,8 +3,8 @@
 use std::io::{self, Read, Write};
 
 use super::cells::RAM_WORDS;
-use super::message::{planted_message, Answer, Remembered, REPLY_WORDS};
-use super::planted::Planted;
+use super::message::{carry_out_with, Answer, MessageRef, Remembered, REPLY_WORDS};
+use super::planted::{with_planted, Planted, NONE};
 use super::records::RECORD_BYTES;
 use super::settings::Settings;
 
@@ -50,6 +50,13 @@ pub fn planted_trace_output(planted: Planted, input: &[u8]) -> Vec<u8> {
 pub fn watched_trace_output(
     planted: Planted,
     input: &[u8],
+    watch: impl FnMut(&Watched, &mut Vec<u8>),
+) -> Vec<u8> {
+    with_planted!(planted, watched_output(input, watch))
+}
+
+fn watched_output<const PLANTED: u8>(
+    input: &[u8],
     mut watch: impl FnMut(&Watched, &mut Vec<u8>),
 ) -> Vec<u8> {
     let mut output = Vec::new();
@@ -60,7 +67,7 @@ pub fn watched_trace_output(
             return output;
         }
     };
-    let mut run = Run::new(planted, image);
+    let mut run = Run::<PLANTED>::new(image);
     let mut records = TraceView {
         bytes: input,
         place: IMAGE_BYTES,
@@ -94,28 +101,19 @@ pub fn image_words(image: &[u8]) -> Vec<u16> {
 /// The trace program for input of any length, in bounded memory.
 ///
 /// Reads and writes in large pieces: neither side needs a buffer of its own.
-pub fn stream_trace(input: impl Read, output: impl Write) -> io::Result<()> {
-    stream_planted_trace(Planted::None, input, output)
-}
-
-/// [`stream_trace`] of a terminal with an error planted in it.
-pub fn stream_planted_trace(
-    planted: Planted,
-    mut input: impl Read,
-    mut output: impl Write,
-) -> io::Result<()> {
+pub fn stream_trace(input: &mut dyn Read, output: &mut dyn Write) -> io::Result<()> {
     let mut text = Vec::new();
     let mut image = vec![0; IMAGE_BYTES];
-    let image_read = fill(&mut input, &mut image)?;
+    let image_read = fill(input, &mut image)?;
     if image_read < IMAGE_BYTES {
         push_line(&mut text, b"image ", image_read as u64);
         output.write_all(&text)?;
         return output.flush();
     }
-    let mut run = Run::new(planted, &image);
+    let mut run = Run::<NONE>::new(&image);
     let mut batch = vec![0; BATCH_RECORDS * RECORD_BYTES];
     loop {
-        let batch_read = fill(&mut input, &mut batch)?;
+        let batch_read = fill(input, &mut batch)?;
         let mut records = TraceView {
             bytes: &batch[..batch_read],
             place: 0,
@@ -137,7 +135,7 @@ pub fn stream_planted_trace(
 }
 
 /// Reads until the buffer is full or the input ends; returns the bytes read.
-fn fill(input: &mut impl Read, buffer: &mut [u8]) -> io::Result<usize> {
+fn fill(input: &mut dyn Read, buffer: &mut [u8]) -> io::Result<usize> {
     let mut filled = 0;
     while filled < buffer.len() {
         match input.read(&mut buffer[filled..]) {
@@ -151,8 +149,7 @@ fn fill(input: &mut impl Read, buffer: &mut [u8]) -> io::Result<usize> {
 }
 
 /// The terminal in the middle of a trace.
-struct Run {
-    planted: Planted,
+struct Run<const PLANTED: u8> {
     ram: Vec<u16>,
     reply: [u16; REPLY_WORDS],
     remembered: Remembered,
@@ -160,10 +157,9 @@ struct Run {
     records: u64,
 }
 
-impl Run {
-    fn new(planted: Planted, image: &[u8]) -> Run {
+impl<const PLANTED: u8> Run<PLANTED> {
+    fn new(image: &[u8]) -> Run<PLANTED> {
         Run {
-            planted,
             ram: image_words(image),
             reply: [0; REPLY_WORDS],
             remembered: Remembered::default(),
@@ -172,13 +168,12 @@ impl Run {
     }
 
     fn message(&mut self, record: &[u8], output: &mut Vec<u8>) -> Answer {
-        let (answer, remembered) = planted_message(
-            self.planted,
+        let (answer, remembered) = carry_out_with::<PLANTED>(
             &mut self.ram,
             &mut self.reply,
             &Settings::TRACE,
             self.remembered,
-            record,
+            MessageRef::Bytes(record),
         );
         self.remembered = remembered;
         self.records += 1;

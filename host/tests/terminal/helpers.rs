@@ -4,7 +4,7 @@ pub use plain_terminal::random::Random;
 use plain_terminal::terminal::records::RECORD_WORDS;
 use plain_terminal::terminal::words::Command;
 use plain_terminal::terminal::{
-    message_from_bytes, message_from_record, write_record, Answer, Record, Remembered, Settings,
+    carry_out, write_record, Answer, MessageRef, Record, Remembered, Settings,
 };
 
 /// Stands in the reply buffer where nothing was written.
@@ -49,24 +49,20 @@ impl Terminal {
     }
 
     pub fn run_bytes(&mut self, bytes: &[u8]) -> Answer {
-        let (answer, remembered) = message_from_bytes(
-            &mut self.ram,
-            &mut self.reply,
-            &self.settings,
-            self.remembered,
-            bytes,
-        );
-        self.remembered = remembered;
-        answer
+        self.carry_out(MessageRef::Bytes(bytes))
     }
 
     pub fn run_value(&mut self, record: &Record) -> Answer {
-        let (answer, remembered) = message_from_record(
+        self.carry_out(MessageRef::Value(record))
+    }
+
+    fn carry_out(&mut self, message: MessageRef) -> Answer {
+        let (answer, remembered) = carry_out(
             &mut self.ram,
             &mut self.reply,
             &self.settings,
             self.remembered,
-            record,
+            message,
         );
         self.remembered = remembered;
         answer

@@ -1,20 +1,21 @@
 //! Each planted error shows where it should, and only there.
 
-use plain_terminal::terminal::message::planted_message;
 use plain_terminal::terminal::trace::planted_trace_output;
-use plain_terminal::terminal::{trace_output, write_record, Answer, Planted, Record};
+use plain_terminal::terminal::{
+    carry_out_planted, trace_output, write_record, Answer, MessageRef, Planted, Record,
+};
 
 use crate::helpers::{good, heard, Random, Terminal};
 use crate::trace::example_image;
 
 fn run(planted: Planted, terminal: &mut Terminal, record: &Record) -> Answer {
-    let (answer, remembered) = planted_message(
+    let (answer, remembered) = carry_out_planted(
         planted,
         &mut terminal.ram,
         &mut terminal.reply,
         &terminal.settings,
         terminal.remembered,
-        &write_record(record).unwrap(),
+        MessageRef::Bytes(&write_record(record).unwrap()),
     );
     terminal.remembered = remembered;
     answer

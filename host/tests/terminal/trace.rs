@@ -36,10 +36,10 @@ pub fn image(words: &[(usize, u16)]) -> Vec<u8> {
     bytes
 }
 
-fn output_of(input: &[u8]) -> String {
+fn output_of(mut input: &[u8]) -> String {
     let whole = trace_output(input);
     let mut streamed = Vec::new();
-    stream_trace(input, &mut streamed).unwrap();
+    stream_trace(&mut input, &mut streamed).unwrap();
     assert_eq!(whole, streamed);
     String::from_utf8(whole).unwrap()
 }
@@ -166,12 +166,12 @@ fn streaming_does_not_show_where_its_buffer_ends() {
         let input = [&example_image()[..], &records[..count * 80 + tail]].concat();
         let expected = output_of(&input);
         assert!(expected.ends_with(&format!("end {count}\n")));
-        let trickle = Trickle {
+        let mut trickle = Trickle {
             bytes: &input,
             random: Random::new(count as u64),
         };
         let mut streamed = Vec::new();
-        stream_trace(trickle, &mut streamed).unwrap();
+        stream_trace(&mut trickle, &mut streamed).unwrap();
         assert_eq!(String::from_utf8(streamed).unwrap(), expected);
     }
 }
