@@ -4,12 +4,14 @@
 //! [`terminal`] carries out messages and whole traces; [`text`] turns traces
 //! into readable text and back; [`engine`] is the proved terminal behind its C
 //! boundary (feature `engine`); [`compare`] runs two terminals side by side
-//! on inputs of [`random`]; [`clock`] times them.
+//! on inputs of [`random`]; [`exchange`] plays lists of messages in two orders;
+//! [`clock`] times terminals.
 
 pub mod clock;
 pub mod compare;
 #[cfg(feature = "engine")]
 pub mod engine;
+pub mod exchange;
 pub mod random;
 pub mod terminal;
 pub mod text;

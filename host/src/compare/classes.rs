@@ -35,10 +35,6 @@ macro_rules! classes {
                 self.counts[class as usize] += u64::from(holds);
             }
 
-            fn either(&mut self, yes: Class, no: Class, holds: bool) {
-                self.note(if holds { yes } else { no }, true);
-            }
-
             fn count(&self, class: Class) -> u64 {
                 self.counts[class as usize]
             }

@@ -315,6 +315,9 @@ impl Coverage {
             self.note(EndMissed, end + 1 == size && moved > 0);
         }
     }
+    fn either(&mut self, yes: Class, no: Class, holds: bool) {
+        self.note(if holds { yes } else { no }, true);
+    }
 }
 
 /// The record of a message, if it is one.

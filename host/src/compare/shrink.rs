@@ -30,13 +30,23 @@ impl<T: Clone + PartialEq, F: Fn(&T) -> bool> Shrinking<T, F> {
 
     /// Keeps a change if it changes something and the difference stays.
     pub fn take(&mut self, change: impl FnOnce(&mut T)) -> bool {
-        let mut changed = self.smallest.clone();
-        change(&mut changed);
+        let changed = self.changed(change);
         let keep = changed != self.smallest && (self.differs)(&changed);
         if keep {
             self.smallest = changed;
         }
         keep
+    }
+
+    /// Whether the difference stays with a change, which is not kept.
+    pub fn shows(&self, change: impl FnOnce(&mut T)) -> bool {
+        (self.differs)(&self.changed(change))
+    }
+
+    fn changed(&self, change: impl FnOnce(&mut T)) -> T {
+        let mut changed = self.smallest.clone();
+        change(&mut changed);
+        changed
     }
 
     /// Zeroes what a terminal starts from, RAM in blocks that become smaller.

@@ -3,6 +3,7 @@
 mod area;
 mod changes;
 mod compare;
+mod exchange;
 mod guide;
 mod helpers;
 mod makers;

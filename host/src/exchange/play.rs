@@ -1,0 +1,116 @@
+//! A list played in an order, and what each of its messages shows.
+
+use super::list::List;
+use crate::compare::case::{ask, Answers, Message, Request, State};
+use crate::compare::coverage::Before;
+use crate::compare::Side;
+use crate::terminal::cells::{Stack, DESCRIPTOR_WORDS, RAM_WORDS};
+use crate::terminal::{write_record, Answer};
+
+/// Interrupt bit 6: the stack wrapped.
+const STACK_ROLLOVER: u16 = 0x0040;
+
+/// What a message shows to whoever looks after it.
+#[derive(Clone, Debug, Default, PartialEq, Eq)]
+pub struct Shown {
+    pub answer: Answer,
+    /// The four stack words that it wrote.
+    pub descriptor: [u16; DESCRIPTOR_WORDS],
+    /// The words that it sent.
+    pub reply: Vec<u16>,
+}
+
+impl Shown {
+    pub fn wraps_stack(&self) -> bool {
+        self.answer.interrupt & STACK_ROLLOVER != 0
+    }
+
+    /// A line for a person to read.
+    pub fn line(&self) -> String {
+        let hex =
+            |words: &[u16]| -> String { words.iter().map(|word| format!(" {word:04X}")).collect() };
+        match self.answer.number {
+            0 => format!(
+                "descriptor{}, interrupt word {:04X}, sends{}",
+                hex(&self.descriptor),
+                self.answer.interrupt,
+                hex(&self.reply)
+            ),
+            number => format!("refused with {number}"),
+        }
+    }
+}
+
+/// An order of the messages' numbers, what each message shows, by its number,
+/// and what they leave.
+#[derive(Clone, Debug, PartialEq, Eq)]
+pub struct Played {
+    pub order: Vec<usize>,
+    pub shown: Vec<Shown>,
+    pub end: State,
+}
+
+impl Played {
+    /// All but the bit that a message need not keep.
+    pub fn without_rollover(mut self) -> Played {
+        for shown in &mut self.shown {
+            shown.answer.interrupt &= !STACK_ROLLOVER;
+        }
+        self
+    }
+}
+
+/// Plays the list from its start in an order. The watcher sees each message.
+pub fn play(
+    side: &impl Side,
+    list: &List,
+    order: Vec<usize>,
+    mut watch: impl FnMut(&Before, &Request, &Answers),
+) -> Played {
+    let mut end = list.start.clone();
+    let mut shown = vec![Shown::default(); list.messages.len()];
+    for &number in &order {
+        let request = request(list, message(list, number));
+        let before = Before::read(&end, &request);
+        let stack = Stack::read(&end.ram, &list.settings);
+        let answers = ask(side, &mut end, &request);
+        watch(&before, &request, &answers);
+        shown[number] = show(&stack, &end, answers.answer);
+    }
+    Played { order, shown, end }
+}
+
+/// One message as its bytes, the next as its value.
+fn message(list: &List, number: usize) -> Message {
+    let record = list.messages[number];
+    match write_record(&record) {
+        Ok(bytes) if number % 2 == 0 => Message::Bytes(bytes.to_vec()),
+        _ => Message::Value(record),
+    }
+}
+
+/// What is asked of a terminal with a message of the list.
+pub fn request(list: &List, message: Message) -> Request {
+    Request {
+        settings: list.settings,
+        ram_words: RAM_WORDS,
+        reply_words: list.reply_words,
+        message,
+        checks_area: false,
+    }
+}
+
+/// What shows after a message, from the stack before it. A terminal that has
+/// gone wrong may have no such words.
+fn show(stack: &Stack, state: &State, answer: Answer) -> Shown {
+    let mut descriptor = [0; DESCRIPTOR_WORDS];
+    if let Some(words) = state.ram.get(stack.descriptor()) {
+        descriptor.copy_from_slice(words);
+    }
+    let words_sent = usize::from(answer.sent) + usize::from(answer.data_words);
+    Shown {
+        answer,
+        descriptor,
+        reply: state.reply.get(..words_sent).unwrap_or_default().to_vec(),
+    }
+}

@@ -1,0 +1,114 @@
+//! Both orders of a list, and whether they are as demand 3 says.
+
+use super::list::List;
+use super::play::{play, Played, Shown};
+use crate::compare::case::{Answers, Lines, Request};
+use crate::compare::coverage::Before;
+use crate::compare::Side;
+use crate::terminal::cells::Stack;
+use crate::terminal::Remembered;
+
+pub struct Both {
+    pub old: Played,
+    pub new: Played,
+}
+
+impl Both {
+    /// The watcher sees each message of the new order.
+    pub fn play(
+        side: &impl Side,
+        list: &List,
+        watch: impl FnMut(&Before, &Request, &Answers),
+    ) -> Both {
+        Both {
+            old: play(side, list, list.old_order(), |_, _, _| ()),
+            new: play(side, list, list.new_order(), watch),
+        }
+    }
+
+    /// Whether the new order is as said; and the old one, as the new one of no
+    /// exchange at all.
+    pub fn is_as_said(&self, list: &List) -> bool {
+        let orders = self.orders();
+        orders.into_iter().all(|(_, played)| {
+            played.clone().without_rollover() == said(list, &self.old, &played.order)
+        })
+    }
+
+    /// What each message shows, in both orders.
+    pub fn lines(&self) -> String {
+        let mut text = String::new();
+        for (name, played) in self.orders() {
+            text += &format!("{name} order:\n");
+            for &number in &played.order {
+                let shown = &played.shown[number];
+                text += &format!("message {}: {}\n", number + 1, shown.line());
+            }
+        }
+        text
+    }
+
+    /// A line for each difference: what is said, then what is so.
+    pub fn differences(&self, list: &List) -> String {
+        let mut text = String::new();
+        for (name, played) in self.orders() {
+            let said = said(list, &self.old, &played.order);
+            let found = played.clone().without_rollover();
+            for &number in &played.order {
+                let lines = shown_differences(&said.shown[number], &found.shown[number]);
+                let message = format!("{name} order, message {}", number + 1);
+                push_part(&mut text, message, lines);
+            }
+            let lines = said.end.differences(&found.end);
+            push_part(&mut text, format!("{name} order, at the end"), lines);
+        }
+        text
+    }
+
+    fn orders(&self) -> [(&'static str, &Played); 2] {
+        [("old", &self.old), ("new", &self.new)]
+    }
+}
+
+fn shown_differences(said: &Shown, found: &Shown) -> String {
+    let mut lines = Lines(String::new());
+    lines.answer(&said.answer, &found.answer);
+    lines.words("descriptor", &said.descriptor, &found.descriptor);
+    lines.words("sent", &said.reply, &found.reply);
+    lines.0
+}
+
+fn push_part(text: &mut String, name: String, lines: String) {
+    if !lines.is_empty() {
+        *text += &format!("{name}:\n{lines}");
+    }
+}
+
+/// All that is said of an order of the messages' numbers, from what they show
+/// in the old order.
+fn said(list: &List, old: &Played, order: &[usize]) -> Played {
+    // "Each message keeps its reply, descriptor and interrupt word, except the
+    // stack-rollover bit." "All RAM outside the stack ends equal, and so does
+    // the stack pointer."
+    let mut said = old.clone().without_rollover();
+    said.order = order.to_vec();
+    let mut stack = Stack::read(&list.start.ram, &list.settings);
+    said.end.ram[stack.block.clone()].copy_from_slice(&list.start.ram[stack.block.clone()]);
+    said.end.reply.copy_from_slice(&list.start.reply);
+    for &number in order {
+        let shown = &mut said.shown[number];
+        // None is refused.
+        shown.answer.number = 0;
+        // "The stack holds the last descriptors that fit, in the new order;"
+        said.end.ram[stack.descriptor()].copy_from_slice(&shown.descriptor);
+        stack.pointer = stack.next().0;
+        // The reply buffer: what each sends goes over its front.
+        said.end.reply[..shown.reply.len()].copy_from_slice(&shown.reply);
+        // "the remembered command and status are the new last message's."
+        said.end.remembered = Remembered {
+            command: list.messages[number].command,
+            status: shown.answer.status,
+        };
+    }
+    said
+}

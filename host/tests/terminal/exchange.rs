@@ -1,0 +1,132 @@
+//! Lists of messages in two orders: this package's terminal is as demand 3
+//! says, and the comparison can fail.
+
+use plain_terminal::compare::Plain;
+use plain_terminal::exchange::draw::random_list;
+use plain_terminal::exchange::replay::{read_list, write_list};
+use plain_terminal::exchange::run::{differs, Met};
+use plain_terminal::exchange::shrink::shrink_list;
+use plain_terminal::exchange::{compare_lists, Forgotten, List};
+use plain_terminal::terminal::Planted;
+
+const GOOD: Plain = Plain(Planted::None);
+
+/// The smallest list found that is not as said.
+fn found(side: &Plain, forgotten: Forgotten) -> Option<List> {
+    let finding = compare_lists(side, forgotten, 1..400, &mut Met::default())?;
+    let is_found = |list: &List| differs(side, forgotten, list);
+    assert!(is_found(&finding.list));
+    Some(shrink_list(&finding.list, is_found))
+}
+
+#[test]
+fn every_class_occurs_and_all_is_as_said() {
+    let mut met = Met::default();
+    let finding = compare_lists(&GOOD, Forgotten::Nothing, 1..2001, &mut met);
+    assert!(finding.is_none());
+    assert_eq!(met.missing(), Vec::<&str>::new(), "{}", met.lists);
+}
+
+#[test]
+fn every_condition_matters() {
+    for forgotten in Forgotten::CONDITIONS {
+        let list = found(&GOOD, forgotten).expect(forgotten.name());
+        assert_eq!(list.messages.len(), 2, "{}", write_list(&list));
+        assert_eq!(list.exchanges, [0]);
+        let objection = list.objection(&GOOD, Forgotten::Nothing).unwrap();
+        assert_eq!(objection, "messages 1 and 2 may not change places");
+        let words = list.start.ram.iter().filter(|&&word| word != 0).count();
+        assert!(words <= 8, "{}", write_list(&list));
+    }
+}
+
+/// A terminal whose words run on into the next window.
+#[test]
+fn a_message_that_leaves_its_window_is_found() {
+    let planted = Plain(Planted::WrapByWordCount);
+    let list = found(&planted, Forgotten::Nothing).unwrap();
+    assert!(list.messages.len() <= 3, "{}", write_list(&list));
+    assert!(!differs(&GOOD, Forgotten::Nothing, &list));
+}
+
+#[test]
+fn a_list_can_be_written_and_read_again() {
+    for seed in 1..40 {
+        let list = random_list(seed, Forgotten::Nothing);
+        let again = read_list(&write_list(&list)).unwrap();
+        assert!(again == list, "seed {seed}");
+    }
+}
+
+#[test]
+fn conditions_have_names() {
+    for forgotten in Forgotten::CONDITIONS {
+        assert_eq!(Forgotten::named(forgotten.name()), Some(forgotten));
+    }
+    assert_eq!(Forgotten::named("nothing"), None);
+}
+
+#[test]
+fn errors_in_a_list_name_the_line() {
+    for (text, expected) in [
+        (
+            "ram 0 1\n",
+            "line 1: found no message, expected a message, raw,",
+        ),
+        (
+            "message 2861 words 1\nexchange 1\n",
+            "line 2: found \"1\", expected a place from 1 to 0",
+        ),
+        (
+            "message 2861 words 1\nmessage 2C61\nexchange 1 2\n",
+            "line 3: found \"2\", expected a place from 1 to 1",
+        ),
+        (
+            "message 2861 words 1\nmassage 2C61\n",
+            "line 2: found \"massage\", expected settings,",
+        ),
+        (
+            "message 2861 words 1\nmessage 2C61 words x\n",
+            "line 2: found \"x\", expected",
+        ),
+        (
+            "message 2861 words 1\nbytes 28\n",
+            "line 2: found no record, expected a message that keeps its layout",
+        ),
+    ] {
+        let error = read_list(text).unwrap_err().to_string();
+        assert!(error.starts_with(expected), "{error}");
+    }
+}
+
+#[test]
+fn an_objection_says_why() {
+    let start = "settings address 5 area A stack 256\nram 0100 0F00\n";
+    for (messages, expected) in [
+        ("message 2861 words 1\n", None),
+        (
+            "lent ram 4096 reply 32\nmessage 2861 words 1\n",
+            Some("32 reply words are too few"),
+        ),
+        (
+            "ram 0143 0FFF\nmessage 2861 words 1\n",
+            Some("the whole-area check answers 9"),
+        ),
+        (
+            "message 2861 words 1\nmessage 3061 words 1\n",
+            Some("message 2 is no well-formed data message"),
+        ),
+        (
+            "message 2861 words 1\nmessage 2801 words 1\n",
+            Some("message 2 is no well-formed data message"),
+        ),
+        (
+            "message 2861 words 1\nmessage 2861 words 2\nexchange 1\n",
+            Some("messages 1 and 2 may not change places"),
+        ),
+    ] {
+        let list = read_list(&(start.to_string() + messages)).unwrap();
+        let objection = list.objection(&GOOD, Forgotten::Nothing);
+        assert_eq!(objection.as_deref(), expected);
+    }
+}
