@@ -7,8 +7,13 @@
 
 mod changes;
 mod pack;
+mod tokens;
 mod unpack;
 
 pub use changes::trace_with_changes;
-pub use pack::{pack, TextError};
+pub use pack::pack;
+pub(crate) use pack::Packer;
+pub use tokens::TextError;
+pub(crate) use tokens::{mismatch, shown, Mismatch, Tokens};
 pub use unpack::unpack;
+pub(crate) use unpack::write_words;

@@ -12,33 +12,18 @@
 //! - `value COMMAND tag WORD flags WORD count N words WORD...`: a message as a
 //!   value that keeps the layout or breaks it; words left out are 0000.
 //!
-//! Left out, the settings are those of the trace program, and all is lent.
+//! Left out, the settings are those of the trace program, and 4,096 words of
+//! RAM and 33 of reply are lent. There is one message in all.
 
 use std::fmt::{self, Write};
 
 use super::case::{Case, Message, Request, State, GUARD_WORDS, REPLY_ROOM};
 use crate::terminal::cells::RAM_WORDS;
 use crate::terminal::message::REPLY_WORDS;
-use crate::terminal::records::{Record, RECORD_BYTES, RECORD_WORDS};
-use crate::terminal::trace::IMAGE_BYTES;
+use crate::terminal::records::{Record, RECORD_BYTES};
+use crate::terminal::trace::{image_bytes, image_words, IMAGE_BYTES};
 use crate::terminal::Settings;
-use crate::text::{pack, unpack, TextError};
-
-/// A yes/no setting by its name.
-type Switch = (&'static str, fn(&mut Settings) -> &mut bool);
-
-const SWITCHES: [Switch; 8] = [
-    ("overwrite-invalid", |s| &mut s.overwrite_invalid),
-    ("separate-broadcast", |s| &mut s.separate_broadcast),
-    ("illegal-receive-disable", |s| {
-        &mut s.illegal_receive_disable
-    }),
-    ("busy-receive-disable", |s| &mut s.busy_receive_disable),
-    ("busy-always", |s| &mut s.busy_always),
-    ("service-request", |s| &mut s.service_request),
-    ("subsystem-flag", |s| &mut s.subsystem_flag),
-    ("terminal-flag", |s| &mut s.terminal_flag),
-];
+use crate::text::{mismatch, shown, unpack, write_words, Mismatch, Packer, TextError, Tokens};
 
 /// The text of a case.
 pub fn write_case(case: &Case) -> String {
@@ -49,262 +34,241 @@ pub fn write_case(case: &Case) -> String {
 
 fn write_lines(text: &mut String, case: &Case) -> fmt::Result {
     let Case { state, request } = case;
-    let mut settings = request.settings;
-    let area = if settings.area_b { 'B' } else { 'A' };
-    write!(text, "settings address {} ", settings.address)?;
-    write!(text, "area {area} stack {}", settings.stack_size)?;
-    for (name, switch) in SWITCHES {
-        if *switch(&mut settings) {
-            write!(text, " {name}")?;
-        }
-    }
+    write_settings(text, request.settings)?;
+    let (ram, reply) = (request.ram_words, request.reply_words);
+    writeln!(text, "lent ram {ram} reply {reply}")?;
+    text.push_str("remembered");
+    write_words(text, &[state.remembered.command, state.remembered.status])?;
     writeln!(text)?;
-    writeln!(
-        text,
-        "lent ram {} reply {}",
-        request.ram_words, request.reply_words
-    )?;
-    let remembered = state.remembered;
-    writeln!(
-        text,
-        "remembered {:04X} {:04X}",
-        remembered.command, remembered.status
-    )?;
     if state.reply.iter().any(|&word| word != 0) {
         text.push_str("reply");
         write_words(text, &state.reply)?;
         writeln!(text)?;
     }
-    let mut input: Vec<u8> = Vec::new();
-    input.extend(
-        state.ram[..RAM_WORDS]
-            .iter()
-            .flat_map(|word| word.to_be_bytes()),
-    );
+    let image = image_bytes(&state.ram[..RAM_WORDS]);
     match &request.message {
         Message::Bytes(bytes) if bytes.len() == RECORD_BYTES => {
-            input.extend(bytes);
-            text.push_str(&unpack(&input));
+            text.push_str(&unpack(&[&image[..], bytes].concat()));
+            Ok(())
         }
         Message::Bytes(bytes) => {
-            text.push_str(&unpack(&input));
-            text.push_str("bytes");
-            bytes
-                .iter()
-                .try_for_each(|byte| write!(text, " {byte:02X}"))?;
-            writeln!(text)?;
+            text.push_str(&unpack(&image));
+            write_bytes(text, bytes)
         }
         Message::Value(record) => {
-            text.push_str(&unpack(&input));
-            write!(text, "value {:04X} tag {:04X} ", record.command, record.tag)?;
-            write!(
-                text,
-                "flags {:04X} count {} words",
-                record.flags, record.count
-            )?;
-            let last = record.words.iter().rposition(|&word| word != 0);
-            write_words(text, &record.words[..last.map_or(0, |place| place + 1)])?;
-            writeln!(text)?;
+            text.push_str(&unpack(&image));
+            write_value(text, record)
         }
     }
-    Ok(())
 }
 
-fn write_words(text: &mut String, words: &[u16]) -> fmt::Result {
-    words
-        .iter()
-        .try_for_each(|word| write!(text, " {word:04X}"))
-}
-
-/// The case that a text stands for.
-pub fn read_case(text: &str) -> Result<Case, TextError> {
-    let mut settings = Settings::TRACE;
-    let mut lent = (RAM_WORDS, REPLY_WORDS);
-    let mut state = State::default();
-    let mut message = None;
-    // The lines that `pack` knows; the others are empty there, so that the
-    // numbers of the lines stay.
-    let mut packed_lines = String::new();
-    for (index, line) in text.lines().enumerate() {
-        let content = line.split('#').next().unwrap_or_default();
-        let mut tokens = Tokens {
-            line: index + 1,
-            rest: content.split_whitespace(),
-        };
-        match tokens.rest.next() {
-            Some("settings") => settings = read_settings(&mut tokens)?,
-            Some("lent") => lent = read_lent(&mut tokens)?,
-            Some("remembered") => {
-                state.remembered.command = tokens.hex("a command")?;
-                state.remembered.status = tokens.hex("a status word")?;
-            }
-            Some("reply") => {
-                let words = tokens.words(REPLY_ROOM)?;
-                state.reply[..words.len()].copy_from_slice(&words);
-            }
-            Some("bytes") => message = Some(Message::Bytes(tokens.bytes()?)),
-            Some("value") => message = Some(Message::Value(read_value(&mut tokens)?)),
-            None | Some("ram" | "message" | "raw") => {
-                packed_lines.push_str(line);
-                tokens.rest = "".split_whitespace();
-            }
-            other => {
-                let expected =
-                    "settings, lent, remembered, reply, ram, message, raw, bytes or value";
-                return tokens.mismatch(other, expected);
-            }
-        }
-        tokens.end()?;
-        packed_lines.push('\n');
-    }
-    let input = pack(packed_lines.as_bytes())?;
-    let (image, records) = input.split_at(input.len().min(IMAGE_BYTES));
-    for (word, pair) in state.ram.iter_mut().zip(image.chunks_exact(2)) {
-        *word = u16::from_be_bytes([pair[0], pair[1]]);
-    }
-    let message = match message {
-        Some(message) => message,
-        None if records.is_empty() => {
-            return Err(TextError {
-                line: text.lines().count(),
-                found: "no message".into(),
-                expected: "a message, raw, bytes or value line".into(),
-            })
-        }
-        None => Message::Bytes(records[..records.len().min(RECORD_BYTES)].to_vec()),
-    };
-    let (ram_words, reply_words) = lent;
-    Ok(Case {
-        state,
-        request: Request {
-            settings,
-            ram_words,
-            reply_words,
-            message,
-            checks_area: true,
-        },
-    })
-}
-
-fn read_settings(tokens: &mut Tokens) -> Result<Settings, TextError> {
-    tokens.name("address")?;
-    let address = tokens.decimal(0xFFFF)? as u16;
-    tokens.name("area")?;
-    let area_b = match tokens.rest.next() {
-        Some("A") => false,
-        Some("B") => true,
-        other => return tokens.mismatch(other, "A or B"),
-    };
-    tokens.name("stack")?;
-    let mut settings = Settings {
-        address,
-        area_b,
-        stack_size: tokens.decimal(0xFFFF)? as u16,
-        overwrite_invalid: false,
-        ..Settings::TRACE
-    };
-    while let Some(token) = tokens.rest.next() {
-        match SWITCHES.iter().find(|(name, _)| *name == token) {
-            Some((_, switch)) => *switch(&mut settings) = true,
-            None => return tokens.mismatch(Some(token), "the name of a yes/no setting"),
+fn write_settings(text: &mut String, mut settings: Settings) -> fmt::Result {
+    let area = if settings.area_b { 'B' } else { 'A' };
+    write!(text, "settings address {} ", settings.address)?;
+    write!(text, "area {area} stack {}", settings.stack_size)?;
+    for (name, switch) in Settings::SWITCHES {
+        if *switch(&mut settings) {
+            write!(text, " {name}")?;
         }
     }
-    Ok(settings)
+    writeln!(text)
 }
 
-fn read_lent(tokens: &mut Tokens) -> Result<(usize, usize), TextError> {
-    tokens.name("ram")?;
-    let ram = tokens.decimal(RAM_WORDS + GUARD_WORDS)?;
-    tokens.name("reply")?;
-    Ok((ram, tokens.decimal(REPLY_ROOM)?))
+fn write_bytes(text: &mut String, bytes: &[u8]) -> fmt::Result {
+    text.push_str("bytes");
+    for byte in bytes {
+        write!(text, " {byte:02X}")?;
+    }
+    writeln!(text)
 }
 
-fn read_value(tokens: &mut Tokens) -> Result<Record, TextError> {
-    let command = tokens.hex("a command")?;
-    tokens.name("tag")?;
-    let tag = tokens.hex("a time tag")?;
-    tokens.name("flags")?;
-    let flags = tokens.hex("flags")?;
-    tokens.name("count")?;
-    let count = tokens.decimal(0xFFFF)? as u16;
-    tokens.name("words")?;
-    let mut words = [0; RECORD_WORDS];
-    let written = tokens.words(RECORD_WORDS)?;
-    words[..written.len()].copy_from_slice(&written);
-    Ok(Record {
+fn write_value(text: &mut String, record: &Record) -> fmt::Result {
+    let Record {
         command,
         tag,
         flags,
         count,
         words,
-    })
+    } = record;
+    write!(text, "value {command:04X} tag {tag:04X} ")?;
+    write!(text, "flags {flags:04X} count {count} words")?;
+    let last = words.iter().rposition(|&word| word != 0);
+    write_words(text, &words[..last.map_or(0, |place| place + 1)])?;
+    writeln!(text)
 }
 
-/// The rest of a line, and its number.
-struct Tokens<'a> {
-    line: usize,
-    rest: std::str::SplitWhitespace<'a>,
+/// The case that a text stands for.
+pub fn read_case(text: &str) -> Result<Case, TextError> {
+    let mut reading = Reading::new();
+    let mut last = 0;
+    for (line, number) in text.lines().zip(1..) {
+        let read = reading.line(line);
+        read.map_err(|mismatch| mismatch.in_line(number))?;
+        last = number;
+    }
+    let case = reading.finish();
+    case.map_err(|mismatch| mismatch.in_line(last))
 }
 
-impl Tokens<'_> {
-    fn mismatch<T>(&self, found: Option<&str>, expected: &str) -> Result<T, TextError> {
-        Err(TextError {
-            line: self.line,
-            found: found.map_or("the end of the line".into(), |token| format!("{token:?}")),
-            expected: expected.into(),
-        })
-    }
+/// A case of which some lines are read.
+struct Reading {
+    case: Case,
+    /// Has the lines that traces have too.
+    packer: Packer,
+    /// What was met of which there is only one.
+    met: Vec<&'static str>,
+}
 
-    fn end(&mut self) -> Result<(), TextError> {
-        match self.rest.next() {
-            None => Ok(()),
-            token => self.mismatch(token, "the end of the line"),
+/// What the lines are called that are a message.
+const MESSAGE: &str = "message";
+
+const LINES: &str = "settings, lent, remembered, reply, ram, message, raw, bytes or value";
+
+impl Reading {
+    fn new() -> Reading {
+        Reading {
+            case: Case {
+                state: State::default(),
+                request: Request {
+                    settings: Settings::TRACE,
+                    ram_words: RAM_WORDS,
+                    reply_words: REPLY_WORDS,
+                    message: Message::Bytes(Vec::new()),
+                    checks_area: true,
+                },
+            },
+            packer: Packer::new(),
+            met: Vec::new(),
         }
     }
 
-    fn name(&mut self, name: &str) -> Result<(), TextError> {
-        match self.rest.next() {
-            Some(token) if token == name => Ok(()),
-            token => self.mismatch(token, name),
-        }
-    }
-
-    fn decimal(&mut self, largest: usize) -> Result<usize, TextError> {
-        let token = self.rest.next();
-        match token.and_then(|token| token.parse().ok()) {
-            Some(number) if number <= largest => Ok(number),
-            _ => self.mismatch(token, &format!("a decimal number up to {largest}")),
-        }
-    }
-
-    fn hex(&mut self, what: &str) -> Result<u16, TextError> {
-        let token = self.rest.next();
-        match token.and_then(|token| u16::from_str_radix(token, 16).ok()) {
-            Some(word) => Ok(word),
-            None => self.mismatch(token, &format!("{what} of four hexadecimal digits")),
-        }
-    }
-
-    /// The words up to the end of the line, at most so many.
-    fn words(&mut self, most: usize) -> Result<Vec<u16>, TextError> {
-        let mut words = Vec::new();
-        while self.rest.clone().next().is_some() {
-            if words.len() == most {
-                return self.mismatch(self.rest.clone().next(), &format!("at most {most} words"));
+    fn line(&mut self, line: &str) -> Result<(), Mismatch> {
+        let mut tokens = Tokens::new(line);
+        let kind = match tokens.next() {
+            None => return Ok(()),
+            Some("ram") => return self.packer.line(line.as_bytes()),
+            Some("message" | "raw") => {
+                self.packer.line(line.as_bytes())?;
+                return self.once(MESSAGE);
             }
-            words.push(self.hex("a word")?);
-        }
-        Ok(words)
+            Some(name) => self.own_line(name, &mut tokens)?,
+        };
+        tokens.end()?;
+        self.once(kind)
     }
 
-    fn bytes(&mut self) -> Result<Vec<u8>, TextError> {
-        let mut bytes = Vec::new();
-        while let Some(token) = self.rest.next() {
-            match u8::from_str_radix(token, 16) {
-                Ok(byte) => bytes.push(byte),
-                Err(_) => return self.mismatch(Some(token), "bytes of two hexadecimal digits"),
+    /// Reads a line that only cases have; returns what it is called.
+    fn own_line(&mut self, name: &str, tokens: &mut Tokens) -> Result<&'static str, Mismatch> {
+        let Case { state, request } = &mut self.case;
+        match name {
+            "settings" => {
+                request.settings = read_settings(tokens)?;
+                Ok("settings line")
             }
+            "lent" => {
+                (request.ram_words, request.reply_words) = read_lent(tokens)?;
+                Ok("lent line")
+            }
+            "remembered" => {
+                state.remembered.command = tokens.hex_word("a command")?;
+                state.remembered.status = tokens.hex_word("a status word")?;
+                Ok("remembered line")
+            }
+            "reply" => {
+                read_words(tokens, &mut state.reply)?;
+                Ok("reply line")
+            }
+            "bytes" => {
+                request.message = Message::Bytes(tokens.bytes()?);
+                Ok(MESSAGE)
+            }
+            "value" => {
+                request.message = Message::Value(read_value(tokens)?);
+                Ok(MESSAGE)
+            }
+            _ => mismatch(shown(Some(name)), LINES),
         }
-        Ok(bytes)
     }
+
+    fn once(&mut self, kind: &'static str) -> Result<(), Mismatch> {
+        if self.met.contains(&kind) {
+            return mismatch(format!("a second {kind}"), "one");
+        }
+        self.met.push(kind);
+        Ok(())
+    }
+
+    fn finish(mut self) -> Result<Case, Mismatch> {
+        if !self.met.contains(&MESSAGE) {
+            return mismatch("no message", "a message, raw, bytes or value line");
+        }
+        let input = self.packer.finish();
+        let (image, record) = input.split_at(IMAGE_BYTES);
+        self.case.state.ram[..RAM_WORDS].copy_from_slice(&image_words(image));
+        if !record.is_empty() {
+            self.case.request.message = Message::Bytes(record.to_vec());
+        }
+        Ok(self.case)
+    }
+}
+
+fn read_settings(tokens: &mut Tokens) -> Result<Settings, Mismatch> {
+    tokens.name("address")?;
+    let address = tokens.decimal("an address", 0xFFFF)? as u16;
+    tokens.name("area")?;
+    let area_b = match tokens.next() {
+        Some("A") => false,
+        Some("B") => true,
+        other => return mismatch(shown(other), "A or B"),
+    };
+    tokens.name("stack")?;
+    let mut settings = Settings {
+        address,
+        area_b,
+        stack_size: tokens.decimal("a stack size", 0xFFFF)? as u16,
+        overwrite_invalid: false,
+        ..Settings::TRACE
+    };
+    for token in tokens {
+        let mut switches = Settings::SWITCHES.iter();
+        match switches.find(|(name, _)| *name == token) {
+            Some((_, switch)) => *switch(&mut settings) = true,
+            None => return mismatch(shown(Some(token)), "the name of a yes/no setting"),
+        }
+    }
+    Ok(settings)
+}
+
+fn read_lent(tokens: &mut Tokens) -> Result<(usize, usize), Mismatch> {
+    tokens.name("ram")?;
+    let ram = tokens.decimal("words of RAM", RAM_WORDS + GUARD_WORDS)?;
+    tokens.name("reply")?;
+    Ok((ram, tokens.decimal("words of reply", REPLY_ROOM)?))
+}
+
+fn read_value(tokens: &mut Tokens) -> Result<Record, Mismatch> {
+    let mut record = Record {
+        command: tokens.hex_word("a command")?,
+        ..Record::default()
+    };
+    tokens.name("tag")?;
+    record.tag = tokens.hex_word("a time tag")?;
+    tokens.name("flags")?;
+    record.flags = tokens.hex_word("flags")?;
+    tokens.name("count")?;
+    record.count = tokens.decimal("a count", 0xFFFF)? as u16;
+    tokens.name("words")?;
+    read_words(tokens, &mut record.words)?;
+    Ok(record)
+}
+
+/// The words up to the end of the line, as far as there is room.
+fn read_words(tokens: &mut Tokens, room: &mut [u16]) -> Result<(), Mismatch> {
+    for word in room {
+        if tokens.at_end() {
+            break;
+        }
+        *word = tokens.hex_word("a word")?;
+    }
+    Ok(())
 }

@@ -71,8 +71,8 @@ impl<T: Clone + PartialEq, F: Fn(&T) -> bool> Shrinking<T, F> {
     /// Turns settings off.
     pub fn simplify_settings(&mut self, settings: impl Fn(&mut T) -> &mut Settings) -> bool {
         let mut smaller = false;
-        for simpler in SIMPLER_SETTINGS {
-            smaller |= self.take(|t| simpler(settings(t)));
+        for (_, switch) in Settings::SWITCHES {
+            smaller |= self.take(|t| *switch(settings(t)) = false);
         }
         smaller
     }
@@ -129,14 +129,3 @@ impl<F: Fn(&Case) -> bool> Shrinking<Case, F> {
         smaller
     }
 }
-
-const SIMPLER_SETTINGS: [fn(&mut Settings); 8] = [
-    |settings| settings.overwrite_invalid = false,
-    |settings| settings.separate_broadcast = false,
-    |settings| settings.illegal_receive_disable = false,
-    |settings| settings.busy_receive_disable = false,
-    |settings| settings.busy_always = false,
-    |settings| settings.service_request = false,
-    |settings| settings.subsystem_flag = false,
-    |settings| settings.terminal_flag = false,
-];

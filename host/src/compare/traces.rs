@@ -1,12 +1,11 @@
 //! Random traces for the trace program, and the smallest one that shows a
 //! difference.
 
-use super::case::State;
 use super::episode::Episode;
 use crate::random::Random;
 use crate::terminal::cells::RAM_WORDS;
 use crate::terminal::records::RECORD_BYTES;
-use crate::terminal::trace::IMAGE_BYTES;
+use crate::terminal::trace::{image_bytes, IMAGE_BYTES};
 use crate::terminal::Settings;
 
 /// Records of the traces that are longer than any buffer.
@@ -39,7 +38,7 @@ pub fn random_trace(seed: u64) -> Vec<u8> {
         let place = random.pick(&[0x0100, looked_up]);
         state.ram[place] = random.word();
     }
-    let mut trace = image_of(&state);
+    let mut trace = image_bytes(&state.ram[..RAM_WORDS]);
     for _ in 0..records {
         trace.extend(episode.record());
     }
@@ -53,16 +52,11 @@ pub fn random_trace(seed: u64) -> Vec<u8> {
 /// A trace of so many records, most of them accepted, for measurements.
 pub fn long_trace(records: usize) -> Vec<u8> {
     let (mut episode, state) = Episode::with_settings(Random::new(1), Settings::TRACE);
-    let mut trace = image_of(&state);
+    let mut trace = image_bytes(&state.ram[..RAM_WORDS]);
     for _ in 0..records {
         trace.extend(episode.record());
     }
     trace
-}
-
-fn image_of(state: &State) -> Vec<u8> {
-    let image = state.ram[..RAM_WORDS].iter();
-    image.flat_map(|word| word.to_be_bytes()).collect()
 }
 
 /// The smallest trace found on which the difference stays.

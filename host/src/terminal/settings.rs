@@ -20,7 +20,24 @@ pub struct Settings {
     pub terminal_flag: bool,
 }
 
+/// A yes/no setting by its name.
+pub type Switch = (&'static str, fn(&mut Settings) -> &mut bool);
+
 impl Settings {
+    /// The yes/no settings, as the scope document lists them.
+    pub const SWITCHES: [Switch; 8] = [
+        ("overwrite-invalid", |s| &mut s.overwrite_invalid),
+        ("separate-broadcast", |s| &mut s.separate_broadcast),
+        ("illegal-receive-disable", |s| {
+            &mut s.illegal_receive_disable
+        }),
+        ("busy-receive-disable", |s| &mut s.busy_receive_disable),
+        ("busy-always", |s| &mut s.busy_always),
+        ("service-request", |s| &mut s.service_request),
+        ("subsystem-flag", |s| &mut s.subsystem_flag),
+        ("terminal-flag", |s| &mut s.terminal_flag),
+    ];
+
     /// What the trace program runs with.
     pub const TRACE: Settings = Settings {
         address: 5,

@@ -98,6 +98,11 @@ pub fn image_words(image: &[u8]) -> Vec<u16> {
     words.map(|b| u16::from_be_bytes([b[0], b[1]])).collect()
 }
 
+/// The image that stands for a RAM.
+pub fn image_bytes(ram: &[u16]) -> Vec<u8> {
+    ram.iter().flat_map(|word| word.to_be_bytes()).collect()
+}
+
 /// The trace program for input of any length, in bounded memory.
 ///
 /// Reads and writes in large pieces: neither side needs a buffer of its own.

@@ -1,7 +1,8 @@
 //! A trace with what each message changes in RAM and what it sends.
 
-use std::io::{self, Write};
+use std::fmt::{self, Write};
 
+use super::unpack::write_words;
 use crate::terminal::trace::{image_words, watched_trace_output, Watched, IMAGE_BYTES};
 use crate::terminal::Planted;
 
@@ -12,12 +13,14 @@ const WORDS_IN_LINE: usize = 8;
 pub fn trace_with_changes(input: &[u8]) -> Vec<u8> {
     let mut before = image_words(&input[..input.len().min(IMAGE_BYTES)]);
     watched_trace_output(Planted::None, input, |watched, output| {
-        write_changes(output, &before, watched).expect("writing to memory never fails");
+        let mut text = String::new();
+        write_changes(&mut text, &before, watched).expect("writing to a string never fails");
+        output.extend_from_slice(text.as_bytes());
         before.copy_from_slice(watched.ram);
     })
 }
 
-fn write_changes(output: &mut Vec<u8>, before: &[u16], watched: &Watched) -> io::Result<()> {
+fn write_changes(text: &mut String, before: &[u16], watched: &Watched) -> fmt::Result {
     let after = watched.ram;
     let changed = |place: usize| before[place] != after[place];
     let mut place = 0;
@@ -27,22 +30,17 @@ fn write_changes(output: &mut Vec<u8>, before: &[u16], watched: &Watched) -> io:
             .take_while(|&place| changed(place))
             .count();
         if length > 0 {
-            write!(output, "    ram {place:04X}")?;
-            write_words(output, &after[place..place + length])?;
+            write!(text, "    ram {place:04X}")?;
+            write_words(text, &after[place..place + length])?;
+            writeln!(text)?;
         }
         place += length.max(1);
     }
     if watched.answer.sent {
         let sent = 1 + usize::from(watched.answer.data_words);
-        write!(output, "    reply")?;
-        write_words(output, &watched.reply[..sent])?;
+        write!(text, "    reply")?;
+        write_words(text, &watched.reply[..sent])?;
+        writeln!(text)?;
     }
     Ok(())
-}
-
-fn write_words(output: &mut Vec<u8>, words: &[u16]) -> io::Result<()> {
-    for word in words {
-        write!(output, " {word:04X}")?;
-    }
-    writeln!(output)
 }

@@ -1,9 +1,6 @@
 //! From text to bytes.
 
-use std::fmt;
-use std::iter::Peekable;
-use std::str::SplitWhitespace;
-
+use super::tokens::{mismatch, shown, Mismatch, TextError, Tokens};
 use crate::terminal::cells::RAM_WORDS;
 use crate::terminal::records::{
     Record, FLAG_BUS_B, FLAG_INVALID_WORD, FLAG_WRONG_SYNC, RECORD_BYTES, RECORD_WORDS, TOO_MANY,
@@ -11,52 +8,14 @@ use crate::terminal::records::{
 use crate::terminal::trace::IMAGE_BYTES;
 use crate::terminal::write_record;
 
-/// What is wrong with a text, and where.
-#[derive(Clone, Debug, PartialEq, Eq)]
-pub struct TextError {
-    /// Counted from 1.
-    pub line: usize,
-    pub found: String,
-    pub expected: String,
-}
-
-impl fmt::Display for TextError {
-    fn fmt(&self, f: &mut fmt::Formatter) -> fmt::Result {
-        let TextError {
-            line,
-            found,
-            expected,
-        } = self;
-        write!(f, "line {line}: found {found}, expected {expected}")
-    }
-}
-
-impl std::error::Error for TextError {}
-
 /// The bytes that a text stands for.
 pub fn pack(text: &[u8]) -> Result<Vec<u8>, TextError> {
     let mut packer = Packer::new();
     for (index, line) in text.split(|&byte| byte == b'\n').enumerate() {
-        packer.line(line).map_err(|mismatch| TextError {
-            line: index + 1,
-            found: mismatch.found,
-            expected: mismatch.expected,
-        })?;
+        let read = packer.line(line);
+        read.map_err(|mismatch| mismatch.in_line(index + 1))?;
     }
     Ok(packer.finish())
-}
-
-/// A [`TextError`] whose line is not yet known.
-struct Mismatch {
-    found: String,
-    expected: String,
-}
-
-fn mismatch<T>(found: impl Into<String>, expected: impl Into<String>) -> Result<T, Mismatch> {
-    Err(Mismatch {
-        found: found.into(),
-        expected: expected.into(),
-    })
 }
 
 /// How far the text has come; lines of an earlier part are refused, since they
@@ -69,14 +28,15 @@ enum Part {
     Tail,
 }
 
-struct Packer {
+/// Takes a text in, line by line.
+pub struct Packer {
     image: Vec<u8>,
     records: Vec<u8>,
     part: Part,
 }
 
 impl Packer {
-    fn new() -> Packer {
+    pub fn new() -> Packer {
         Packer {
             image: vec![0; IMAGE_BYTES],
             records: Vec::new(),
@@ -84,25 +44,24 @@ impl Packer {
         }
     }
 
-    fn finish(mut self) -> Vec<u8> {
+    pub fn finish(mut self) -> Vec<u8> {
         self.image.append(&mut self.records);
         self.image
     }
 
-    fn line(&mut self, line: &[u8]) -> Result<(), Mismatch> {
+    pub fn line(&mut self, line: &[u8]) -> Result<(), Mismatch> {
         let line = match std::str::from_utf8(line) {
             Ok(line) => line,
             Err(_) => return mismatch("bytes that are not text", "text in UTF-8"),
         };
-        let content = line.split('#').next().unwrap_or_default();
-        let mut tokens = Tokens::new(content);
+        let mut tokens = Tokens::new(line);
         match tokens.next() {
             None => return Ok(()),
             Some("image") => self.image_line(&mut tokens)?,
             Some("ram") => self.ram_line(&mut tokens)?,
             Some("message") => self.message_line(&mut tokens)?,
             Some("raw") => self.raw_line(&mut tokens)?,
-            Some(other) => return mismatch(quoted(other), "image, ram, message or raw"),
+            other => return mismatch(shown(other), "image, ram, message or raw"),
         }
         tokens.end()
     }
@@ -132,7 +91,7 @@ impl Packer {
             let word = tokens.hex_word("a RAM word")?;
             self.set_word(address, word)?;
             address += 1;
-            if tokens.peek().is_none() {
+            if tokens.at_end() {
                 return Ok(());
             }
         }
@@ -221,7 +180,7 @@ fn read_message(tokens: &mut Tokens) -> Result<Record, Mismatch> {
             "flags" => record.flags |= read_flags(tokens)?,
             "count" => count = Some(tokens.decimal("a count", TOO_MANY.into())?),
             "words" => words_written = read_words(tokens, &mut record.words)?,
-            other => return mismatch(quoted(other), "bus, tag, flags, count or words"),
+            other => return mismatch(shown(Some(other)), "bus, tag, flags, count or words"),
         }
     }
     record.count = count.unwrap_or(words_written) as u16;
@@ -232,18 +191,18 @@ fn read_bus(tokens: &mut Tokens) -> Result<u16, Mismatch> {
     match tokens.next() {
         Some("A") => Ok(0),
         Some("B") => Ok(FLAG_BUS_B),
-        other => mismatch(found(other), "bus A or B"),
+        other => mismatch(shown(other), "bus A or B"),
     }
 }
 
 /// One or both of the fault names.
 fn read_flags(tokens: &mut Tokens) -> Result<u16, Mismatch> {
     let mut flags = 0;
-    while let Some(name) = tokens.next_value() {
-        flags |= match name {
-            "sync" => FLAG_WRONG_SYNC,
-            "invalid" => FLAG_INVALID_WORD,
-            other => return mismatch(quoted(other), "sync or invalid"),
+    while !tokens.at_end_or(&MESSAGE_PARTS) {
+        flags |= match tokens.next() {
+            Some("sync") => FLAG_WRONG_SYNC,
+            Some("invalid") => FLAG_INVALID_WORD,
+            other => return mismatch(shown(other), "sync or invalid"),
         };
     }
     if flags == 0 {
@@ -255,9 +214,9 @@ fn read_flags(tokens: &mut Tokens) -> Result<u16, Mismatch> {
 /// One to 32 data words; returns how many.
 fn read_words(tokens: &mut Tokens, words: &mut [u16; RECORD_WORDS]) -> Result<usize, Mismatch> {
     let mut written = 0;
-    while let Some(token) = tokens.next_value() {
+    while !tokens.at_end_or(&MESSAGE_PARTS) {
         match words.get_mut(written) {
-            Some(word) => *word = hex_word(token, "a data word")?,
+            Some(word) => *word = tokens.hex_word("a data word")?,
             None => {
                 return mismatch(
                     "more than 32 words",
@@ -271,94 +230,4 @@ fn read_words(tokens: &mut Tokens, words: &mut [u16; RECORD_WORDS]) -> Result<us
         return mismatch("words without a word", "1 to 32 data words");
     }
     Ok(written)
-}
-
-/// The blank-separated pieces of a line.
-struct Tokens<'a>(Peekable<SplitWhitespace<'a>>);
-
-impl<'a> Tokens<'a> {
-    fn new(line: &'a str) -> Tokens<'a> {
-        Tokens(line.split_whitespace().peekable())
-    }
-
-    fn peek(&mut self) -> Option<&'a str> {
-        self.0.peek().copied()
-    }
-
-    fn next(&mut self) -> Option<&'a str> {
-        self.0.next()
-    }
-
-    /// The next piece, unless a new part of a message begins with it.
-    fn next_value(&mut self) -> Option<&'a str> {
-        self.0.next_if(|token| !MESSAGE_PARTS.contains(token))
-    }
-
-    fn end(&mut self) -> Result<(), Mismatch> {
-        match self.next() {
-            None => Ok(()),
-            Some(token) => mismatch(quoted(token), "the end of the line"),
-        }
-    }
-
-    fn hex_word(&mut self, what: &str) -> Result<u16, Mismatch> {
-        match self.next() {
-            Some(token) => hex_word(token, what),
-            None => mismatch(found(None), what),
-        }
-    }
-
-    fn decimal(&mut self, what: &str, largest: usize) -> Result<usize, Mismatch> {
-        let token = self.next();
-        let digits = token.filter(|token| token.bytes().all(|byte| byte.is_ascii_digit()));
-        match digits.and_then(|digits| digits.parse().ok()) {
-            Some(number) if number <= largest => Ok(number),
-            _ => mismatch(found(token), format!("{what}, decimal, 0 to {largest}")),
-        }
-    }
-
-    /// The rest of the line as bytes.
-    fn bytes(&mut self) -> Result<Vec<u8>, Mismatch> {
-        let mut bytes = Vec::new();
-        while let Some(token) = self.next() {
-            for pair in token.as_bytes().chunks(2) {
-                match hex_byte(pair) {
-                    Some(byte) => bytes.push(byte),
-                    None => return mismatch(quoted(token), "pairs of hexadecimal digits"),
-                }
-            }
-        }
-        Ok(bytes)
-    }
-}
-
-fn hex_word(token: &str, what: &str) -> Result<u16, Mismatch> {
-    match u16::from_str_radix(token, 16) {
-        Ok(word) if is_hex(token) && token.len() <= 4 => Ok(word),
-        _ => mismatch(
-            quoted(token),
-            format!("{what} of 1 to 4 hexadecimal digits"),
-        ),
-    }
-}
-
-/// Also keeps out the signs that number parsing would let through.
-fn is_hex(token: &str) -> bool {
-    token.bytes().all(|byte| byte.is_ascii_hexdigit())
-}
-
-fn hex_byte(pair: &[u8]) -> Option<u8> {
-    let digit = |character: u8| char::from(character).to_digit(16);
-    match *pair {
-        [high, low] => Some((16 * digit(high)? + digit(low)?) as u8),
-        _ => None,
-    }
-}
-
-fn found(token: Option<&str>) -> String {
-    token.map_or("the end of the line".to_string(), quoted)
-}
-
-fn quoted(token: &str) -> String {
-    format!("\"{token}\"")
 }

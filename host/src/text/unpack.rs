@@ -88,7 +88,8 @@ fn write_message(text: &mut String, record: &Record) -> fmt::Result {
     writeln!(text)
 }
 
-fn write_words(text: &mut String, words: &[u16]) -> fmt::Result {
+/// Each word with a blank before it.
+pub fn write_words(text: &mut String, words: &[u16]) -> fmt::Result {
     words
         .iter()
         .try_for_each(|word| write!(text, " {word:04X}"))

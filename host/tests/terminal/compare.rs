@@ -80,13 +80,14 @@ fn errors_in_a_case_name_the_line() {
         ),
         (
             "lent ram 9999 reply 33",
-            "line 1: found \"9999\", expected a decimal number up to 4160",
+            "line 1: found \"9999\", expected words of RAM, decimal, 0 to 4160",
         ),
         (
             "value 2861 tag",
             "line 1: found the end of the line, expected a time tag of",
         ),
-        ("bytes 28 x", "line 1: found \"x\", expected bytes of two"),
+        ("bytes 28 x", "line 1: found \"x\", expected pairs of"),
+        ("value +1F", "line 1: found \"+1F\", expected a command of"),
         (
             "remembered 1 2 3",
             "line 1: found \"3\", expected the end of the line",
@@ -94,6 +95,22 @@ fn errors_in_a_case_name_the_line() {
         (
             "\n\nmessage 2861 words",
             "line 3: found words without a word, expected",
+        ),
+        (
+            "lent ram 1 reply 1\n\nlent ram 1 reply 1",
+            "line 3: found a second lent line",
+        ),
+        (
+            "message 2861\nmessage 2861",
+            "line 2: found a second message, expected one",
+        ),
+        (
+            "message 2861\nbytes 28",
+            "line 2: found a second message, expected one",
+        ),
+        (
+            "value 2861 tag 0 flags 0 count 0 words\nraw 28",
+            "line 2: found a second message",
         ),
     ] {
         let error = read_case(text).unwrap_err().to_string();
