@@ -24,9 +24,6 @@ use Rattle.view.proofs.view
 pub take-at-settled : Settled 1 view.take_at.Kinds.ps view.take_at.Kinds.r view.take_at.Reads.Post
 take-at-settled κs a x y v w p q = (determined p q, refl)
 
-pub first-settled : Settled 1 view.first.Kinds.ps view.first.Kinds.r view.first.Reads.Post
-first-settled κs a x y v w p q = (determined p q, refl)
-
 -- ---- the functions over a view
 
 module _ {M : Type 1} (𝓤 : URA M) (H : Heap 𝓤) (A : Atoms 𝓤) (mem : Memory → SProp 𝓤) (run : Routine → Fun 𝓤) (κs : Lfts 1) where

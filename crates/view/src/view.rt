@@ -1,5 +1,5 @@
-// A view that holds the caller's trace and a place in it. Each function over it takes it apart and calls a function on the
-// slice and the number, since a struct that holds a reference is proved by hand.
+// A view that holds the caller's trace and a place in it. `next` takes it apart and calls `take_at` on the slice and the number,
+// since a struct that holds a reference is proved by hand.
 ghost use mathlib.Core.Path.{_≡_};
 ghost use Rattle.view.specs.View.{hasRecord, noneAt, takenAt};
 use layout::reader::Reading;
@@ -72,11 +72,4 @@ pub fn moved<'a>(v: View<'a>, at: usize) -> View<'a>
     ensures { λ r. ⌜ (r .trace ≡ v .entry .trace) × (r .at ≡ at) ⌝ }
 {
     View { trace: v.trace, at }
-}
-
-// The first record of a trace, for callers that hold no view.
-pub fn first(trace: &[u8]) -> Taken
-    ensures { λ r. ⌜ r ≡ takenAt (now (trace .entry)) 0 ⌝ }
-{
-    next(view_of(trace))
 }
