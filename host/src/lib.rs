@@ -5,7 +5,7 @@
 //! into readable text and back; [`engine`] is the proved terminal behind its C
 //! boundary (feature `engine`); [`compare`] runs two terminals side by side
 //! on inputs of [`random`]; [`exchange`] plays lists of messages in two orders;
-//! [`clock`] times terminals.
+//! [`clock`] times terminals, and [`spread`] sums repeated measurements up.
 
 pub mod clock;
 pub mod compare;
@@ -13,5 +13,6 @@ pub mod compare;
 pub mod engine;
 pub mod exchange;
 pub mod random;
+pub mod spread;
 pub mod terminal;
 pub mod text;

@@ -73,11 +73,7 @@ impl Random {
 
     /// A record of this command that keeps its layout, with or without faults.
     pub fn record_for(&mut self, command: Command) -> Record {
-        let expected = if command.is_transmit() {
-            0
-        } else {
-            command.word_count()
-        };
+        let expected = command.expected_words();
         let count = match self.below(9) {
             0 => self.below(34) as u16,
             1 => expected.saturating_sub(1),

@@ -11,6 +11,7 @@ use std::time::Duration;
 
 use plain_terminal::clock::Clock;
 use plain_terminal::engine::boundary as proved;
+use plain_terminal::spread::Spread;
 use plain_terminal::terminal::boundary::{
     self as plain, settings_words, value_words, ANSWER_WORDS, REMEMBERED_WORDS, VALUE_WORDS,
 };
@@ -18,7 +19,7 @@ use plain_terminal::terminal::message::REPLY_WORDS;
 use plain_terminal::terminal::records::RECORD_BYTES;
 use plain_terminal::terminal::{write_record, Record, Settings};
 
-const USAGE: &str = "usage: bench, bench --rows, or bench --count ROW plain|proved MESSAGES";
+const USAGE: &str = "usage: bench, or bench --count ROW plain|proved MESSAGES";
 const REPEATS: usize = 11;
 const BATCH: Duration = Duration::from_millis(30);
 
@@ -43,7 +44,6 @@ fn main() -> ExitCode {
     let arguments: Vec<&str> = arguments.iter().map(String::as_str).collect();
     match arguments[..] {
         [] => rows().iter().for_each(measure),
-        ["--rows"] => rows().iter().for_each(|row| println!("{}", row.name)),
         ["--count", name, side, messages] => return count(name, side, messages),
         _ => return usage(),
     }
@@ -113,22 +113,9 @@ fn measure(row: &Row) {
         }
         ratios.push(times[0] / times[1]);
     }
-    let [plain, proved] = speeds.map(sorted);
-    let ratios = sorted(ratios);
-    println!(
-        "{}|{:.0}|{:.0}|{:.2}|{:.2}|{:.2}",
-        row.name,
-        plain[REPEATS / 2],
-        proved[REPEATS / 2],
-        ratios[REPEATS / 2],
-        ratios[0],
-        ratios[REPEATS - 1]
-    );
-}
-
-fn sorted(mut numbers: Vec<f64>) -> Vec<f64> {
-    numbers.sort_by(f64::total_cmp);
-    numbers
+    let [plain, proved] = speeds.map(|speeds| Spread::of(speeds).median);
+    let name = row.name;
+    println!("{name}|{plain:.0}|{proved:.0}|{}", Spread::of(ratios));
 }
 
 /// The time that a side takes, and a sum over what it answered.

@@ -15,6 +15,7 @@ use std::thread;
 use std::time::Duration;
 
 use plain_terminal::compare::traces::long_trace;
+use plain_terminal::spread::Spread;
 
 const USAGE: &str = "usage: bench_traces PLAIN... -- PROVED...";
 const RECORDS: [usize; 4] = [0, 10_000, 100_000, 1_000_000];
@@ -65,22 +66,11 @@ fn measure(
         }
         ratios.push(runs[0].seconds / runs[1].seconds);
     }
-    let [plain, proved] = times.map(|times| sorted(times)[REPEATS / 2]);
-    let ratios = sorted(ratios);
-    println!(
-        "{records}|{plain:.3}|{proved:.3}|{:.2}|{:.2}|{:.2}|{}|{}",
-        ratios[REPEATS / 2],
-        ratios[0],
-        ratios[REPEATS - 1],
-        memory[0],
-        memory[1]
-    );
+    let [plain, proved] = times.map(|times| Spread::of(times).median);
+    let ratios = Spread::of(ratios);
+    let [plain_memory, proved_memory] = memory;
+    println!("{records}|{plain:.3}|{proved:.3}|{ratios}|{plain_memory}|{proved_memory}");
     Ok(())
-}
-
-fn sorted(mut numbers: Vec<f64>) -> Vec<f64> {
-    numbers.sort_by(f64::total_cmp);
-    numbers
 }
 
 /// What a run of a program cost.

@@ -36,6 +36,15 @@ impl Command {
             count => count,
         }
     }
+
+    /// The number of data words that are to be heard with the command.
+    pub fn expected_words(self) -> u16 {
+        if self.is_transmit() {
+            0
+        } else {
+            self.word_count()
+        }
+    }
 }
 
 /// A word with the given bit set if `on`, else 0.

@@ -114,13 +114,7 @@ pub fn heard(command: u16, count: u16, flags: u16) -> Record {
 
 /// The faultless record for a command.
 pub fn good(command: u16) -> Record {
-    let fields = Command(command);
-    let count = if fields.is_transmit() {
-        0
-    } else {
-        fields.word_count()
-    };
-    heard(command, count, 0)
+    heard(command, Command(command).expected_words(), 0)
 }
 
 pub fn numbered_words(first: u16, count: usize) -> Vec<u16> {

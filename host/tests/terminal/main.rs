@@ -13,5 +13,6 @@ mod programs;
 mod records;
 mod refusals;
 mod samples;
+mod spread;
 mod text;
 mod trace;
