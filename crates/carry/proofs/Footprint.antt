@@ -7,7 +7,6 @@ use mathlib.Core.List.{List, [], _∷_, _++_}
 use lib.ListN.{length, getD, set, length-set}
 use lib.Seq.{getD-set-same, getD-set-other, set-out}
 use Rattle.words.proofs.Basics.{lt-or-ge, eq-or-ne}
-use Rattle.windows.specs.declared.window.Window.{Window}
 use Rattle.carry.specs.Writes.{Write, applyWrites, writesTo}
 use Rattle.carry.proofs.Writes.{apply-append, length-apply}
 
@@ -60,10 +59,6 @@ unfolding applyWrites
 same-at a [] m n l e = e
 same-at a (x ∷ xs) m n l e =
     same-at a xs (set m (x .at) (x .word)) (set n (x .at) (x .word)) (simp length-set l) (set-same-at a (x .at) (x .word) m n l e)
-
--- address a lies outside the window
-abbrev pub Outside : Window → ℕ → Type 0
-Outside w a = w .start ≤ a → a < w .start + w .size → ⊥
 
 -- where places differ, each of n writes leaves its word
 pub written :

@@ -2,21 +2,22 @@
 -- descriptor lie in a row in the block, and that the pointer moved on by 4 is sound in the same block.
 use Prim.Native.Nat.{ℕ, _+_, _-_, _%_, _≤_, _<_}
 use native.Mathlib.Omega.{arith}
-use native.Mathlib.Nat.{mod-lt, mod-le, mod-eq-of-lt, mod-mod-of-dvd, dvd-of-mod-eq-zero}
-use mathlib.Core.Path.{_≡_}
+use native.Mathlib.Nat.{mod-lt, mod-le, mod-mod-of-dvd, dvd-of-mod-eq-zero}
+use mathlib.Core.Path.{_≡_, _∙_}
 use mathlib.Core.Logic.{_⊎_, ⊎-elim}
 use mathlib.Core.Bool.{true, false, not, _&&_}
 use mathlib.Core.List.{List}
 use lib.ListN.{length}
 use lib.Dec.{leb, eqb}
-use borrow.Author.Tests.{leb-true, eqb-true, le-leb, eq-eqb, not-true}
+use borrow.Author.Tests.{leb-true, eqb-true, le-leb, lt-leb, eq-eqb, not-true}
 use Rattle.words.specs.declared.settings.Settings.{Settings}
 use Rattle.words.specs.Settings.{settingsRefused}
 use Rattle.words.proofs.SettingsLaws.{settings-agreed}
 use Rattle.words.proofs.Basics.{and-left, and-right}
-use Rattle.windows.specs.Window.{aligned, placeOf, meetsFixed, fitsBelow}
+use Rattle.windows.specs.Window.{aligned, placeOf, rollsOver, meetsFixed, fitsBelow}
 use Rattle.cells.specs.Stack.{stackPointer, stackWindow, stackSound}
-use Rattle.windows.proofs.Wrap.{place-from, place-below, aligned-size, aligned-same, SameRun}
+use Rattle.windows.proofs.Wrap.{place-from, place-below, place-straight, aligned-pointer, aligned-size, aligned-same, SameRun}
+use Rattle.windows.proofs.Meets.{Outside}
 use Rattle.memory.proofs.Places.{OrdinaryAddress}
 use Rattle.cells.proofs.Sound.{OffFixed, fixed-off, off-fixed, ordinary-address}
 
@@ -62,6 +63,14 @@ pub stack-address :
     x < stackWindow ram s .start + stackWindow ram s .size → OrdinaryAddress (length ram) x
 stack-address ram s f = ordinary-address (length ram) (stackWindow ram s) (f .inside) (f .fixed)
 
+-- so the fixed areas lie outside it
+module _ (ram : List ℕ) (s : Settings) (f : StackSound ram s) where
+  pub tables-off : (a : ℕ) → 0x100 ≤ a → a < 0x248 → Outside (stackWindow ram s) a
+  tables-off a l h i j = stack-address ram s f a i j .tables l h
+
+  pub illegal-off : (a : ℕ) → 0x300 ≤ a → a < 0x400 → Outside (stackWindow ram s) a
+  illegal-off a l h i j = stack-address ram s f a i j .illegal l h
+
 -- what is used of the listed sizes
 pub record WholeEntries (n : ℕ) : Type 0 where
   pub some : 0 < n
@@ -72,28 +81,38 @@ size-whole s h =
     ⊎-elim (⊎-elim (λ e. omega arith) (λ e. omega arith)) (⊎-elim (λ e. omega arith) (λ e. omega arith))
     (settings-agreed s h .size)
 
+-- the stack pointer's offset in a block of n words: a multiple of 4
+pub record Offset (n o : ℕ) : Type 0 where
+  pub below : o < n
+  pub fours : o % 4 ≡ 0
+
+module _ (n : ℕ) (z : WholeEntries n) where
+  pub offset-of : (p : ℕ) → p % 4 ≡ 0 → Offset n (p % n)
+  offset-of p m =
+      record { below = mod-lt p (z .some); fours = mod-mod-of-dvd 4 p (dvd-of-mod-eq-zero 4 (z .fours)) ∙ m }
+
+  -- four words fit behind it
+  pub entry-fits : (o : ℕ) → Offset n o → o + 4 ≤ n
+  entry-fits o h = omega (arith, z .fours, h .below, h .fours)
+
 module _ (p n : ℕ) (m : p % 4 ≡ 0) (z : WholeEntries n) where
-  -- the offset in the block is a multiple of 4, so four words fit behind it
-  entry-fits : p % n + 4 ≤ n
-  entry-fits =
-      let h : p % n < n = mod-lt p (z .some) in
-      let d : p % n % 4 ≡ p % 4 = mod-mod-of-dvd 4 p (dvd-of-mod-eq-zero 4 (z .fours)) in
-      omega (arith, z .fours)
+  pointer-fits : aligned p n .offset + 4 ≤ aligned p n .size
+  unfolding aligned
+  pointer-fits = entry-fits n z (p % n) (offset-of n z p m)
 
   -- the four words of a descriptor stand in a row
   entry-straight : (k : ℕ) → k < 4 → placeOf (aligned p n) k ≡ p + k
-  unfolding placeOf aligned
+  unfolding rollsOver
   entry-straight k h =
-      let l : p % n + k < n = omega (arith, entry-fits) in
-      omega (arith, mod-eq-of-lt l, mod-le p n)
+      let l : aligned p n .offset + k < aligned p n .size = omega (arith, pointer-fits) in
+      place-straight (aligned p n) k (lt-leb _ _ l) ∙ omega (arith, aligned-pointer p n)
 
   -- the pointer moved on by 4 is a multiple of 4
   entry-next : placeOf (aligned p n) 4 % 4 ≡ 0
   unfolding placeOf aligned
   entry-next =
-      let d = mod-mod-of-dvd 4 (p % n + 4) (dvd-of-mod-eq-zero 4 (z .fours)) in
-      let e = mod-mod-of-dvd 4 p (dvd-of-mod-eq-zero 4 (z .fours)) in
-      omega (arith, d, e, mod-le p n)
+      let o = offset-of n z p m .fours in
+      omega (arith, o, offset-of n z (p % n + 4) (omega (arith, o)) .fours, mod-le p n)
 
   -- and the block around it is the same block
   entry-same : SameRun (aligned (placeOf (aligned p n) 4) n) (aligned p n)
@@ -103,8 +122,7 @@ module _ (p n : ℕ) (m : p % 4 ≡ 0) (z : WholeEntries n) where
 
   -- with room for four words behind it
   entry-room : p + 4 ≤ aligned p n .start + aligned p n .size
-  unfolding aligned
-  entry-room = omega (arith, entry-fits, mod-le p n)
+  entry-room = omega (arith, pointer-fits, aligned-pointer p n)
 
 -- what the message needs of a sound stack of a listed size
 module _ (ram : List ℕ) (s : Settings) (agreed : settingsRefused s ≡ false) (f : StackSound ram s) where

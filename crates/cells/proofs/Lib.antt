@@ -1,3 +1,4 @@
+pub mod Described
 pub mod Sizes
 pub mod Sound
 pub mod Block

@@ -11,11 +11,11 @@ use Rattle.cells.specs.declared.cell.Scheme.the-variants.{Single, Double
 use Rattle.cells.specs.declared.cell.Cell.{Cell}
 use Rattle.windows.specs.declared.window.Window.{Window}
 use Rattle.windows.specs.Window.{placeOf, meets, meetsFixed, windowsMeet, fitsBelow}
-use Rattle.cells.specs.Cell.{windowOf, doubleFits, cellWindow, soundCell}
+use Rattle.cells.specs.Cell.{doubleFits, cellWindow, soundCell}
 use Rattle.windows.proofs.Wrap.{place-from, place-below, SameRun}
 use Rattle.windows.proofs.Meets.{nothing-shared}
 use Rattle.memory.proofs.Places.{OrdinaryAddress}
-use Rattle.cells.proofs.Sizes.{Sized, window-nonempty, window-kept}
+use Rattle.cells.proofs.Sizes.{Sized, window-nonempty}
 
 -- the window meets no fixed area
 pub record OffFixed (w : Window) : Type 0 where
@@ -127,19 +127,21 @@ module _ (length : ℕ) (block : Window) (c : Cell) (f : CellSound length block 
         stack = rw (e .start, e .size) (f .stack);
       }
 
-  -- the cell stays sound where its pointer moves inside its window
-  pub sound-moved :
-      (d : Cell) → d .scheme ≡ c .scheme → (c .scheme ≡ Single → ⊥) → cellWindow c .start ≤ d .pointer →
-      d .pointer < cellWindow c .start + cellWindow c .size → (c .scheme ≡ Double → d .pointer % 32 ≡ 0) →
-      CellSound length block d
-  sound-moved d e n l h m =
-      let k : SameRun (windowOf (c .scheme) (d .pointer)) (cellWindow c) = window-kept (c .scheme) (c .pointer) (d .pointer) n l h in
-      let a : cellWindow d .start ≡ cellWindow c .start = rw e (k .start) in
-      let b : cellWindow d .size ≡ cellWindow c .size = rw e (k .size) in
-      record {
-        pointer = omega (arith, f .inside);
-        inside = rw (a, b) (f .inside);
-        double = λ s. m (cc);
-        fixed = record { tables = rw (a, b) (f .fixed .tables); illegal = rw (a, b) (f .fixed .illegal) };
-        stack = rw (a, b) (f .stack);
-      }
+-- a cell whose window is the same, with the pointer in it, is as sound
+pub sound-same :
+    (long : ℕ) (block : Window) (c d : Cell) →
+    CellSound long block c →
+    d .scheme ≡ c .scheme →
+    SameRun (cellWindow d) (cellWindow c) →
+    d .pointer < cellWindow c .start + cellWindow c .size →
+    (c .scheme ≡ Double → d .pointer % 32 ≡ 0) →
+    CellSound long block d
+sound-same long block c d f e k l m =
+    record {
+      pointer = omega (arith, f .inside);
+      inside = rw (k .start, k .size) (f .inside);
+      double = λ h. m (cc);
+      fixed =
+          record { tables = rw (k .start, k .size) (f .fixed .tables); illegal = rw (k .start, k .size) (f .fixed .illegal) };
+      stack = rw (k .start, k .size) (f .stack);
+    }

@@ -13,18 +13,16 @@ use borrow.Author.Tests.{ltb-true, ltb-false}
 use Rattle.records.specs.declared.value.Record.{Record}
 use Rattle.words.specs.declared.settings.Settings.{Settings}
 use Rattle.words.proofs.Basics.{yes-or-no}
-use Rattle.words.proofs.SettingsLaws.{ListedSize, settings-agreed}
 use Rattle.windows.specs.declared.window.Window.{Window}
 use Rattle.windows.specs.Window.{aligned}
 use Rattle.cells.specs.Stack.{stackPointer, stackWindow}
 use Rattle.windows.proofs.Wrap.{aligned-pointer, aligned-moved}
-use Rattle.cells.proofs.Block.{stack-nonempty}
+use Rattle.cells.proofs.Block.{WholeEntries, size-whole, Offset, offset-of, entry-fits, stack-nonempty}
 use Rattle.message.specs.Run.{State, stepValue, run, effectOf, effects}
 use Rattle.message.proofs.Step.{stack-moves, entry-stands, block-stays}
 use Rattle.exchange.specs.Descriptors.{entriesOn, lastOf, stackWord}
-use Rattle.exchange.proofs.Numbers.{for-listed, Offset, on, on-less, on-farthest, on-other, further, next-offset, last-on}
-use Rattle.exchange.proofs.Taken.{Good, Formed, done, sure, good-next}
-use Rattle.exchange.proofs.Same.{AllFormed}
+use Rattle.exchange.proofs.StackEntries.{on, on-less, on-farthest, on-other, further, next-offset, last-on}
+use Rattle.exchange.proofs.Taken.{Good, Formed, AllFormed, done, sure, good-next}
 
 -- the descriptors of a run, in order
 abbrev pub descriptors : Settings → List Record → State → List (List ℕ)
@@ -50,7 +48,7 @@ module _
     (start n o : ℕ)
     (g : Good s x)
     (f : Formed s v)
-    (z : ListedSize n)
+    (z : WholeEntries n)
     (w : stackWindow (x .ram) s ≡ record { start = start; size = n; offset = o })
     (h : Offset n o)
   where
@@ -91,10 +89,7 @@ module _
 
     -- the four words lie in the block
     entry-inside : (k : ℕ) → k < 4 → o + k < n
-    entry-inside k b =
-        let fours : n % 4 ≡ 0 =
-        for-listed (λ (m : ℕ). m % 4 ≡ 0) (omega arith) (omega arith) (omega arith) (omega arith) n z in
-        omega (arith, h .below, h .fours)
+    entry-inside k b = omega (arith, entry-fits n z o h)
 
     pub one-more :
         (ds : List (List ℕ)) (end : List ℕ) →
@@ -128,7 +123,7 @@ pub filled :
     (s : Settings) (vs : List Record) (x : State) (start n o : ℕ) →
     Good s x →
     AllFormed s vs →
-    ListedSize n →
+    WholeEntries n →
     stackWindow (x .ram) s ≡ record { start = start; size = n; offset = o } →
     Offset n o →
     Filled start n o (descriptors s vs x) (x .ram) (run s vs x .ram)
@@ -142,7 +137,7 @@ filled s (v ∷ vs) x start n o g f z w h =
 -- each place of the block, by the last descriptor there
 word-at :
     (block : Window) (ds : List (List ℕ)) (before after : List ℕ) →
-    ListedSize (block .size) →
+    WholeEntries (block .size) →
     Offset (block .size) (block .offset) →
     Filled (block .start) (block .size) (block .offset) ds before after →
     (j : ℕ) →
@@ -162,22 +157,14 @@ word-at block ds before after z h r j l =
     (λ (e : ltb (on n o j) m ≡ false). rw e (r .rest j l (ltb-false (on n o j) m e)))
     (yes-or-no (ltb (on n o j) m))
 
--- the stack of a good state: a listed size, and an offset that is a multiple of 4
-size-listed : (s : Settings) (x : State) → Good s x → ListedSize (stackWindow (x .ram) s .size)
+-- the stack of a good state: whole entries, and an offset that is a multiple of 4
+whole-entries : (s : Settings) (x : State) → Good s x → WholeEntries (stackWindow (x .ram) s .size)
 unfolding stackWindow aligned
-size-listed s x g = settings-agreed s (g .area .accepted .settings-accepted) .size
+whole-entries s x g = size-whole s (g .area .accepted .settings-accepted)
 
-offset-fours : (s : Settings) (x : State) → Good s x → Offset (stackWindow (x .ram) s .size) (stackWindow (x .ram) s .offset)
+pointer-offset : (s : Settings) (x : State) → Good s x → Offset (stackWindow (x .ram) s .size) (stackWindow (x .ram) s .offset)
 unfolding stackWindow aligned
-offset-fours s x g =
-    let p = stackPointer (x .ram) s in
-    let m = g .area .accepted .stack-sound .multiple in
-    for-listed (λ (n : ℕ). Offset n (p % n)) (record { below = omega arith; fours = omega arith })
-    (record { below = omega arith; fours = omega arith })
-    (record { below = omega arith; fours = omega arith })
-    (record { below = omega arith; fours = omega arith })
-    (s .«stack_size»)
-    (size-listed s x g)
+pointer-offset s x g = offset-of (s .«stack_size») (whole-entries s x g) (stackPointer (x .ram) s) (g .area .accepted .stack-sound .multiple)
 
 pub stack-holds :
     (s : Settings) (vs : List Record) (x : State) →
@@ -189,8 +176,8 @@ pub stack-holds :
     ≡ stackWord (x .ram) (stackWindow (x .ram) s) (descriptors s vs x) j
 stack-holds s vs x g f =
     let block = stackWindow (x .ram) s in
-    let z = size-listed s x g in
-    let h = offset-fours s x g in
+    let z = whole-entries s x g in
+    let h = pointer-offset s x g in
     word-at block (descriptors s vs x) (x .ram) (run s vs x .ram) z h
     (filled s vs x (block .start) (block .size) (block .offset) g f z refl h)
 
@@ -210,4 +197,4 @@ pub last-fit :
     ≡ getD (getD (descriptors s vs x) i []) k 0
 last-fit s vs x g f =
     let block = stackWindow (x .ram) s in
-    filled s vs x (block .start) (block .size) (block .offset) g f (size-listed s x g) refl (offset-fours s x g) .last
+    filled s vs x (block .start) (block .size) (block .offset) g f (whole-entries s x g) refl (pointer-offset s x g) .last

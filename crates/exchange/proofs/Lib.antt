@@ -1,5 +1,5 @@
 pub mod Cases
-pub mod Numbers
+pub mod StackEntries
 pub mod Taken
 pub mod Same
 pub mod Separate

@@ -11,15 +11,15 @@ use Rattle.words.specs.Command.{subaddressOf}
 use Rattle.words.proofs.Basics.{and-left, and-right}
 use Rattle.memory.specs.Kind.{kindOf}
 use Rattle.cells.specs.Stack.{stackWindow}
-use Rattle.windows.proofs.Wrap.{SameRun}
+use Rattle.windows.proofs.Wrap.{SameRun, same-back}
 use Rattle.arrival.specs.Target.{cellFor, targetOf}
 use Rattle.message.specs.Run.{State, stepValue, run, Effect, effectOf, effects}
 use Rattle.message.proofs.Kept.{Kept}
 use Rattle.exchange.specs.Order.{swapAt, exchangeAll}
 use Rattle.exchange.specs.Condition.{mayExchange, allowedAt, allowedAll}
 use Rattle.exchange.specs.Kept.{withoutStackRollover}
-use Rattle.exchange.proofs.Taken.{Good, done, sure, good-next}
-use Rattle.exchange.proofs.Same.{Alike, alike-self, alike-both, alike-block, AllFormed, step-keeps, same-back, run-same}
+use Rattle.exchange.proofs.Taken.{Good, AllFormed, done, sure, good-next, step-keeps}
+use Rattle.exchange.proofs.Same.{Alike, alike-self, alike-both, alike-block, run-same}
 use Rattle.exchange.proofs.Separate.{separate, separate-swap}
 use Rattle.exchange.proofs.Swap.{shown-stays, orders-alike}
 

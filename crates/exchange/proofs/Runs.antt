@@ -11,8 +11,7 @@ use Rattle.decide.specs.Plan.{planOf}
 use Rattle.message.specs.Run.{State, stepValue, run, Effect, effectOf, effects}
 use Rattle.exchange.specs.After.{lastWord, overFront, repliedAll, rememberedLast}
 use Rattle.exchange.specs.Exchanged.{allDone}
-use Rattle.exchange.proofs.Taken.{Good, done, good-next}
-use Rattle.exchange.proofs.Same.{AllFormed}
+use Rattle.exchange.proofs.Taken.{Good, AllFormed, done, good-next}
 
 pub run-done : (s : Settings) (vs : List Record) (x : State) → Good s x → AllFormed s vs → allDone (effects s vs x)
 unfolding effects allDone acceptedWith
@@ -34,8 +33,8 @@ run-replies s (v ∷ vs) x g f =
     ∙ ap (λ (b : List ℕ). repliedAll (effects s vs (stepValue s v x)) b) e
 
 -- the last of a list with one more in front
-last-on : (w u : ℕ) (ws : List ℕ) → lastWord (w ∷ u ∷ ws) ≡ lastWord (u ∷ ws)
-last-on w u ws =
+last-behind : (w u : ℕ) (ws : List ℕ) → lastWord (w ∷ u ∷ ws) ≡ lastWord (u ∷ ws)
+last-behind w u ws =
     let a : suc (suc (length ws)) - 1 ≡ suc (length ws) = omega arith in
     let b : suc (length ws) - 1 ≡ length ws = omega arith in
     rw (a, b)
@@ -55,7 +54,7 @@ run-remembers s (v ∷ u ∷ vs) x g f l =
     let y = stepValue s v x in
     run-remembers s (u ∷ vs) y (good-next s v x g (f .0)) (f .1) (omega arith)
     ∙ rw (
-      ← (last-on (v .command) (u .command) (map (λ (r : Record). r .command) vs)),
-      ← (last-on (effectOf s v x .answer .status) (effectOf s u y .answer .status)
+      ← (last-behind (v .command) (u .command) (map (λ (r : Record). r .command) vs)),
+      ← (last-behind (effectOf s v x .answer .status) (effectOf s u y .answer .status)
           (map (λ (e : Effect). e .answer .status) (effects s vs (stepValue s u y)))),
     )

@@ -3,21 +3,22 @@ use Prim.Native.Nat.{ℕ, zero, suc, _+_, _≤_, _<_}
 use native.Mathlib.Omega.{arith}
 use mathlib.Core.Path.{_≡_, refl, sym, _∙_}
 use mathlib.Core.Logic.{⊎-elim}
-use mathlib.Core.Bool.{true}
 use mathlib.Core.List.{List, [], _∷_}
 use lib.ListN.{length, getD}
 use Rattle.records.specs.declared.value.Record.{Record}
 use Rattle.words.specs.declared.settings.Settings.{Settings}
 use Rattle.words.specs.Command.{subaddressOf}
 use Rattle.words.specs.Settings.{isOwn}
-use Rattle.words.proofs.Basics.{eq-or-ne, and-left, and-right}
+use Rattle.words.proofs.Basics.{eq-or-ne}
 use Rattle.windows.specs.declared.window.Window.{Window}
 use Rattle.memory.specs.Map.{lookupPlace, controlPlace, stackPointerPlace, busyPlace, illegalPlace, isBusyAt, isIllegalAt}
 use Rattle.windows.specs.Window.{placeOf}
 use Rattle.memory.specs.Kind.{cellNumber, kindOf}
 use Rattle.cells.specs.Stack.{stackPointer, stackWindow}
-use Rattle.windows.proofs.Wrap.{SameRun}
-use Rattle.cells.proofs.Block.{StackSound, stack-address}
+use Rattle.windows.proofs.Wrap.{SameRun, same-back}
+use Rattle.windows.proofs.Meets.{Outside}
+use Rattle.cells.proofs.Block.{StackSound, tables-off, illegal-off}
+use Rattle.cells.proofs.Described.{cell-words}
 use Rattle.cells.proofs.Sound.{sound-place}
 use Rattle.memory.proofs.Numbers.{number-below}
 use Rattle.memory.proofs.Places.{lookup-between, control-between, stack-pointer-between, busy-between, illegal-between}
@@ -27,11 +28,9 @@ use Rattle.decide.specs.Plan.{deedOf, entryOf, planOf}
 use Rattle.carry.specs.Writes.{writesTo, deedWrites}
 use Rattle.carry.specs.Reply.{replyWrites, replyWords}
 use Rattle.message.specs.Run.{State, stepValue, run, effectOf, effects}
-use Rattle.carry.proofs.Footprint.{Outside, same-at}
+use Rattle.carry.proofs.Footprint.{same-at}
 use Rattle.message.proofs.Step.{deedFor, after-length, target-sized, stack-moves, beyond-stack}
-use Rattle.message.proofs.Kept.{Kept, cell-words, message-keeps}
-use Rattle.exchange.specs.Condition.{wellFormed, allWellFormed}
-use Rattle.exchange.proofs.Taken.{Good, Formed, formed, done, sure, good-next}
+use Rattle.exchange.proofs.Taken.{Good, Formed, AllFormed, done, sure, good-next, step-keeps}
 
 pub record Alike (block : Window) (m n : List ℕ) : Type 0 where
   pub long : length m ≡ length n
@@ -39,9 +38,6 @@ pub record Alike (block : Window) (m n : List ℕ) : Type 0 where
 
 pub alike-self : (block : Window) (m : List ℕ) → Alike block m m
 alike-self block m = record { long = refl; words = λ a h. refl }
-
-pub alike-swap : (block : Window) (m n : List ℕ) → Alike block m n → Alike block n m
-alike-swap block m n e = record { long = sym (e .long); words = λ a h. sym (e .words a h) }
 
 pub alike-both : (block : Window) (l m n : List ℕ) → Alike block l m → Alike block m n → Alike block l n
 alike-both block l m n e g = record { long = e .long ∙ g .long; words = λ a h. e .words a h ∙ g .words a h }
@@ -77,13 +73,16 @@ words-same m n d h =
     let w = d .target .window in
     rw (writes-same (λ k. k + 1) (λ k. getD m (placeOf w k) 0) (λ k. getD n (placeOf w k) 0) (d .act .sent) (λ k l. h k))
 
--- the tables lie outside the stack's block
-module _ (ram : List ℕ) (s : Settings) (f : StackSound ram s) where
-  pub tables-off : (a : ℕ) → 0x100 ≤ a → a < 0x248 → Outside (stackWindow ram s) a
-  tables-off a l h i j = stack-address ram s f a i j .tables l h
-
-  pub illegal-off : (a : ℕ) → 0x300 ≤ a → a < 0x400 → Outside (stackWindow ram s) a
-  illegal-off a l h i j = stack-address ram s f a i j .illegal l h
+-- the stack pointer lies outside the stack's block
+pub pointer-same :
+    (ram m n : List ℕ) (s : Settings) →
+    StackSound ram s →
+    Alike (stackWindow ram s) m n →
+    stackPointer m s ≡ stackPointer n s
+unfolding stackPointer
+pointer-same ram m n s f e =
+    let b = stack-pointer-between (s .area) in
+    e .words (stackPointerPlace (s .area)) (tables-off ram s f (stackPointerPlace (s .area)) (omega arith) (omega arith))
 
 -- one message
 module _
@@ -104,15 +103,12 @@ module _
     table-same : (a : ℕ) → 0x100 ≤ a → a < 0x248 → getD m a 0 ≡ getD n a 0
     table-same a l i = e .words a (tables-off m s (g .area .accepted .stack-sound) a l i)
 
-    pointer-same : stackPointer m s ≡ stackPointer n s
-    unfolding stackPointer
-    pointer-same =
-        let b = stack-pointer-between (s .area) in
-        table-same (stackPointerPlace (s .area)) (omega arith) (omega arith)
+    pointers-same : stackPointer m s ≡ stackPointer n s
+    pointers-same = pointer-same m m n s (g .area .accepted .stack-sound) e
 
     block-same : stackWindow m s ≡ stackWindow n s
     unfolding stackWindow
-    block-same = rw pointer-same
+    block-same = rw pointers-same
 
     aim-same : targetOf m s (v .command) ≡ targetOf n s (v .command)
     unfolding cellFor
@@ -125,7 +121,7 @@ module _
         let b = busy-between (isOwn s c) c in
         let i = illegal-between (isOwn s c) c in
         target-same m n s c
-        (cell-words m n s (kindOf s c) sub (table-same (lookupPlace (s .area) number) (omega arith) (omega arith))
+        (cell-words m n (s .area) (kindOf s c) sub (table-same (lookupPlace (s .area) number) (omega arith) (omega arith))
         (table-same (controlPlace (s .area) sub) (omega arith) (omega arith)))
         (e .words (illegalPlace (isOwn s c) c)
         (illegal-off m s (g .area .accepted .stack-sound) (illegalPlace (isOwn s c) c) (omega arith) (omega arith)))
@@ -142,7 +138,7 @@ module _
 
     plan-same : planOf m s v ≡ planOf n s v
     unfolding planOf entryOf
-    plan-same = rw (aim-same, pointer-same, block-same)
+    plan-same = rw (aim-same, pointers-same, block-same)
 
     pub effect-same : effectOf s v x ≡ effectOf s v y
     effect-same =
@@ -173,23 +169,6 @@ module _
         })
 
 -- a whole run
-abbrev pub AllFormed : Settings → List Record → Type 0
-AllFormed s [] = Unit {0}
-AllFormed s (v ∷ vs) = Formed s v × AllFormed s vs
-
-pub all-formed : (s : Settings) (vs : List Record) → allWellFormed s vs ≡ true → AllFormed s vs
-unfolding allWellFormed
-all-formed s [] e = tt
-all-formed s (v ∷ vs) e =
-    (formed s v (and-left (wellFormed s v) (allWellFormed s vs) e), all-formed s vs (and-right (wellFormed s v) (allWellFormed s vs) e))
-
--- a message keeps the stack's block
-pub step-keeps : (s : Settings) (v : Record) (x : State) → Good s x → Formed s v → Kept s (x .ram) (stepValue s v x .ram)
-step-keeps s v x g f = rw (done s v x g f .ram) (message-keeps (x .ram) s v (sure s v x g f))
-
-pub same-back : (v w : Window) → SameRun v w → SameRun w v
-same-back v w k = record { start = sym (k .start); size = sym (k .size) }
-
 pub run-same :
     (s : Settings) (vs : List Record) (x y : State) →
     Good s x →

@@ -12,21 +12,21 @@ use Rattle.records.specs.declared.value.Record.{Record}
 use Rattle.words.specs.declared.settings.Settings.{Settings}
 use Rattle.words.specs.Command.{transmits, subaddressOf}
 use Rattle.words.specs.Settings.{isOwn}
-use Rattle.words.proofs.Basics.{lt-or-ge, eq-or-ne, and-left, and-right, or-either}
+use Rattle.words.proofs.Basics.{eq-or-ne, and-left, and-right, or-either}
 use Rattle.windows.specs.declared.window.Window.{Window}
 use Rattle.memory.specs.Map.{lookupPlace}
 use Rattle.windows.specs.Window.{placeOf, windowsMeet}
 use Rattle.memory.specs.Kind.{kindOf}
 use Rattle.cells.specs.Stack.{stackWindow}
 use Rattle.windows.proofs.Wrap.{place-from, place-below}
-use Rattle.windows.proofs.Meets.{windows-swap, nothing-shared}
+use Rattle.windows.proofs.Meets.{windows-swap, nothing-shared, Outside, in-or-out}
 use Rattle.cells.proofs.Sound.{FreeAddress, sound-address}
 use Rattle.memory.proofs.Places.{lookup-between, lookup-differs, ordinary-not-lookup, ordinary-not-stack-pointer}
 use Rattle.arrival.specs.Target.{cellFor, targetOf}
 use Rattle.decide.specs.Plan.{deedOf}
 use Rattle.carry.specs.Writes.{deedWrites}
 use Rattle.carry.specs.Reply.{replyWords}
-use Rattle.carry.proofs.Footprint.{Avoids, Outside}
+use Rattle.carry.proofs.Footprint.{Avoids}
 use Rattle.message.proofs.Sure.{Sure}
 use Rattle.message.proofs.Step.{afterMessage, deedFor, cell-low, target-some, deed-avoids, elsewhere, tables-outside}
 use Rattle.message.proofs.Kept.{message-keeps, other-cell}
@@ -68,14 +68,6 @@ separate-swap ram s a b p =
           (λ (h : (transmits (a .command) ≡ true) × (transmits (b .command) ≡ true)). inr (h .1, h .0))
           (p .windows);
     }
-
-in-or-out : (w : Window) (i : ℕ) → ((w .start ≤ i) × (i < w .start + w .size)) ⊎ Outside w i
-in-or-out w i =
-    ⊎-elim (λ (l : i < w .start). inr (λ p q. omega arith))
-    (λ (l : w .start ≤ i).
-    ⊎-elim (λ (h : i < w .start + w .size). inl (l, h)) (λ (h : w .start + w .size ≤ i). inr (λ p q. omega arith))
-    (lt-or-ge i (w .start + w .size)))
-    (lt-or-ge i (w .start))
 
 -- b after a
 module _

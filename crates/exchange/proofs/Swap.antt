@@ -10,6 +10,7 @@ use Rattle.records.specs.declared.value.Record.{Record}
 use Rattle.words.specs.declared.settings.Settings.{Settings}
 use Rattle.words.proofs.Basics.{eq-or-ne}
 use Rattle.memory.specs.Map.{stackPointerPlace}
+use Rattle.windows.proofs.Meets.{Outside}
 use Rattle.cells.specs.Stack.{stackPointer, stackWindow}
 use Rattle.arrival.specs.declared.target.Target.{Target}
 use Rattle.decide.specs.declared.plan.Deed.{Deed}
@@ -20,7 +21,7 @@ use Rattle.carry.specs.Reply.{replyWords}
 use Rattle.message.specs.Answer.{acceptedWith}
 use Rattle.message.specs.Run.{State, stepValue, Effect, effectOf}
 use Rattle.memory.proofs.Bits.{bit-small}
-use Rattle.carry.proofs.Footprint.{Avoids, untouched, Outside, same-at}
+use Rattle.carry.proofs.Footprint.{Avoids, untouched, same-at}
 use Rattle.message.proofs.Sure.{Sure}
 use Rattle.message.proofs.Step.{afterMessage, deedFor, after-length, beyond-stack, stack-moves}
 use Rattle.message.proofs.Kept.{message-keeps}
@@ -108,8 +109,8 @@ module _
     unfolding stackWindow
     moved-same = rw (stack-moves ram s b fb, stack-moves ram s a fa)
 
-    pointer-equal : stackPointer (afterMessage mb s a) s ≡ stackPointer (afterMessage ma s b) s
-    pointer-equal = stack-moves mb s a fba ∙ rw moved-same (sym (stack-moves ma s b fab))
+    pointer-either-way : stackPointer (afterMessage mb s a) s ≡ stackPointer (afterMessage ma s b) s
+    pointer-either-way = stack-moves mb s a fba ∙ rw moved-same (sym (stack-moves ma s b fab))
 
     outside-after :
         (v : Record) (f : Sure ram s (v .command)) (i : ℕ) → Outside (stackWindow ram s) i → Outside (stackWindow (afterMessage ram s v) s) i
@@ -142,7 +143,7 @@ module _
           words =
               λ i o.
               ⊎-elim
-              (λ (r : i ≡ stackPointerPlace (s .area)). rw r pointer-equal)
+              (λ (r : i ≡ stackPointerPlace (s .area)). rw r pointer-either-way)
               (λ (r : i ≡ stackPointerPlace (s .area) → ⊥).
               beyond-stack mb s a fba i (outside-after b fb i o) r
               ∙ rw (aim-stays ram s b a fb fa (separate-swap ram s a b p))

@@ -3,6 +3,7 @@ use Prim.Native.Nat.{_≤_}
 use native.Mathlib.Omega.{arith}
 use mathlib.Core.Path.{_≡_, refl}
 use mathlib.Core.Bool.{true, false, not, _&&_}
+use mathlib.Core.List.{List, [], _∷_}
 use lib.ListN.{length}
 use borrow.Author.Tests.{not-true, le-ltb}
 use Rattle.records.specs.declared.value.Record.{Record}
@@ -25,10 +26,10 @@ use Rattle.message.specs.Message.{outcomeOfValue, ramAfterValue, replyAfterValu
 use Rattle.message.specs.Run.{State, stepValue, effectOf}
 use Rattle.message.proofs.Sure.{Sure, fine-sure}
 use Rattle.message.proofs.Step.{afterMessage, deedFor}
-use Rattle.message.proofs.Kept.{fine-kept}
+use Rattle.message.proofs.Kept.{Kept, message-keeps, fine-kept}
 use Rattle.carry.proofs.Writes.{length-apply}
 use Rattle.carry.proofs.Replied.{reply-front, sent-few}
-use Rattle.exchange.specs.Condition.{wellFormed}
+use Rattle.exchange.specs.Condition.{wellFormed, allWellFormed}
 use Rattle.exchange.specs.After.{overFront}
 
 -- a state from which every well-formed message is accepted
@@ -52,6 +53,16 @@ formed s v e =
       ours = not-true _ (and-left theirs plain r);
       subaddress = not-true _ (and-right theirs plain r);
     }
+
+abbrev pub AllFormed : Settings → List Record → Type 0
+AllFormed s [] = Unit {0}
+AllFormed s (v ∷ vs) = Formed s v × AllFormed s vs
+
+pub all-formed : (s : Settings) (vs : List Record) → allWellFormed s vs ≡ true → AllFormed s vs
+unfolding allWellFormed
+all-formed s [] e = tt
+all-formed s (v ∷ vs) e =
+    (formed s v (and-left (wellFormed s v) (allWellFormed s vs) e), all-formed s vs (and-right (wellFormed s v) (allWellFormed s vs) e))
 
 -- what one accepted message leaves, and what it shows
 pub record Done (s : Settings) (v : Record) (x : State) : Type 0 where
@@ -113,3 +124,7 @@ module _ (s : Settings) (v : Record) (x : State) (g : Good s x) (f : Formed s v)
         area = rw (done .ram) (fine-kept (x .ram) s v sure (g .area));
         room = rw (done .long) (g .room);
       }
+
+  -- whose windows and stack's block are the same
+  pub step-keeps : Kept s (x .ram) (stepValue s v x .ram)
+  step-keeps = rw (done .ram) (message-keeps (x .ram) s v sure)

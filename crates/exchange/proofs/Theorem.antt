@@ -1,6 +1,5 @@
 -- Demand 3, proved.
 use Prim.Native.Nat.{ℕ, _+_, _≤_, _<_}
-use native.Mathlib.Omega.{arith}
 use mathlib.Core.Path.{_≡_}
 use mathlib.Core.Bool.{true, false, not, _&&_, true≢false}
 use mathlib.Core.List.{List}
@@ -11,20 +10,18 @@ use Rattle.records.specs.declared.value.Record.{Record}
 use Rattle.words.specs.declared.settings.Settings.{Settings}
 use Rattle.words.proofs.Basics.{and-left, and-right}
 use Rattle.windows.specs.declared.window.Window.{Window}
-use Rattle.memory.specs.Map.{stackPointerPlace}
 use Rattle.area.specs.Area.{checkArea}
-use Rattle.cells.specs.Stack.{stackPointer, stackWindow}
-use Rattle.memory.proofs.Places.{stack-pointer-between}
+use Rattle.cells.specs.Stack.{stackWindow}
 use Rattle.area.proofs.Whole.{area-fine}
+use Rattle.windows.proofs.Meets.{Outside}
 use Rattle.message.specs.Answer.{replyRefused}
 use Rattle.message.specs.Run.{State, run}
-use Rattle.carry.proofs.Footprint.{Outside}
 use Rattle.exchange.specs.Order.{exchangeAll}
 use Rattle.exchange.specs.Condition.{allWellFormed, allowedAll}
 use Rattle.exchange.specs.After.{keptAfter, stackAfter, rememberedAfter, repliedAfter}
 use Rattle.exchange.specs.Exchanged.{startsWell, takesWell, asked, isInside, Demand}
-use Rattle.exchange.proofs.Taken.{Good}
-use Rattle.exchange.proofs.Same.{Alike, all-formed, tables-off}
+use Rattle.exchange.proofs.Taken.{Good, all-formed}
+use Rattle.exchange.proofs.Same.{pointer-same}
 use Rattle.exchange.proofs.Places.{exchange-run, exchange-formed, exchange-length}
 use Rattle.exchange.proofs.Entries.{stack-holds}
 use Rattle.exchange.proofs.Runs.{run-done, run-replies, run-remembers}
@@ -60,18 +57,6 @@ taken-apart s x vs places e =
       allowed = and-right (start && take) allowed e;
     }
 
--- the stack pointer lies outside the stack's block
-pointer-equal :
-    (s : Settings) (x : State) (m n : List ℕ) →
-    Good s x →
-    Alike (stackWindow (x .ram) s) m n →
-    stackPointer m s ≡ stackPointer n s
-unfolding stackPointer
-pointer-equal s x m n g e =
-    let b = stack-pointer-between (s .area) in
-    e .words (stackPointerPlace (s .area))
-    (tables-off (x .ram) s (g .area .accepted .stack-sound) (stackPointerPlace (s .area)) (omega arith) (omega arith))
-
 pub exchange : Demand
 unfolding keptAfter stackAfter rememberedAfter repliedAfter
 exchange s x vs places e =
@@ -85,7 +70,7 @@ exchange s x vs places e =
       done = (run-done s vs x g f, run-done s ws x g k);
       long = b .ram .long;
       ram = λ a h. b .ram .words a (outside (stackWindow (x .ram) s) a h);
-      pointer = pointer-equal s x (run s ws x .ram) (run s vs x .ram) g (b .ram);
+      pointer = pointer-same (x .ram) (run s ws x .ram) (run s vs x .ram) s (g .area .accepted .stack-sound) (b .ram);
       kept = b .kept;
       stack = stack-holds s ws x g k;
       remembered = run-remembers s ws x g k (rw (exchange-length places vs) (q .some));

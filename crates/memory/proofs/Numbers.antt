@@ -1,9 +1,11 @@
 -- The number of a cell tells its kind and its subaddress, and is below 96.
-use Prim.Native.Nat.{ℕ, _+_, _*_, _%_, _<_}
+use Prim.Native.Nat.{ℕ, _+_, _*_, _%_, _≤_, _<_}
 use native.Mathlib.Omega.{arith}
 use mathlib.Core.Path.{_≡_}
+use mathlib.Core.Logic.{_⊎_, ⊎-elim}
 use borrow.Author.Tests.{lt-ltb, le-ltb}
 use Rattle.words.specs.Command.{subaddressOf}
+use Rattle.words.proofs.Basics.{lt-or-ge}
 use Rattle.words.proofs.Commands.{subaddress-small}
 use Rattle.memory.specs.declared.kind.Kind.{Kind}
 use Rattle.memory.specs.declared.kind.Kind.the-variants.{Receive, Transmit, Broadcast}
@@ -26,6 +28,19 @@ unfolding cellNumber
 number-below Receive sub h = omega arith
 number-below Transmit sub h = omega arith
 number-below Broadcast sub h = omega arith
+
+-- and they tell its number
+pub number-back : (n : ℕ) → n < 96 → cellNumber (kindNumbered n) (n % 32) ≡ n
+unfolding kindNumbered cellNumber
+number-back n h =
+    ⊎-elim
+    (λ (l : n < 32). rw (lt-ltb n 32 l) (omega arith))
+    (λ (l : 32 ≤ n).
+    ⊎-elim
+    (λ (g : n < 64). rw (le-ltb n 32 l, lt-ltb n 64 g) (omega arith))
+    (λ (g : 64 ≤ n). rw (le-ltb n 32 l, le-ltb n 64 g) (omega arith))
+    (lt-or-ge n 64))
+    (lt-or-ge n 32)
 
 -- cells that differ in kind or subaddress have different numbers
 pub number-differs :

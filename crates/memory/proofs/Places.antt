@@ -1,14 +1,16 @@
--- Where the places of the memory map lie, that they differ, and that no ordinary address is one of them.
+-- Where the places of the memory map lie, that RAM has them, that they differ, and that no ordinary address is one of them.
 use Prim.Native.Nat.{ℕ, _≤_, _<_}
 use native.Mathlib.Omega.{arith}
 use mathlib.Core.Path.{_≡_}
-use mathlib.Core.Bool.{Bool}
+use mathlib.Core.Bool.{Bool, false, not}
+use lib.Dec.{eqb}
+use borrow.Author.Tests.{eqb-true, not-false}
 use Rattle.words.specs.declared.settings.Area.{Area}
 use Rattle.words.specs.declared.settings.Area.the-variants.{A, B}
 use Rattle.words.specs.Command.{transmits}
 use Rattle.memory.specs.declared.kind.Kind.{Kind}
 use Rattle.memory.specs.declared.kind.Kind.the-variants.{Receive, Transmit, Broadcast}
-use Rattle.memory.specs.Map.{stackPointerPlace, lookupTable, lookupPlace, controlPlace, busyPlace, illegalPlace}
+use Rattle.memory.specs.Map.{ramRefused, stackPointerPlace, lookupTable, lookupPlace, controlPlace, busyPlace, illegalPlace}
 use Rattle.memory.specs.Kind.{kindNumber}
 use Rattle.memory.proofs.Bits.{bit-small}
 
@@ -66,6 +68,13 @@ lookup-not-stack-pointer area cell h e =
 pub control-not-stack-pointer :
     (area : Area) (sub : ℕ) → controlPlace area sub ≡ stackPointerPlace area → ⊥
 control-not-stack-pointer area sub e = omega (arith, table-between area, stack-pointer-between area)
+
+-- RAM of an accepted length has all the fixed areas, and a 16-bit word holds each of its addresses
+pub ram-between : (length : ℕ) → ramRefused length ≡ false → (0x400 ≤ length) × (length ≤ 65536)
+unfolding ramRefused
+ram-between length e =
+    let q = eqb-true length 4096 (not-false (eqb length 4096) e) in
+    (omega arith, omega arith)
 
 -- an address that is in RAM and in no fixed area
 pub record OrdinaryAddress (length x : ℕ) : Type 0 where

@@ -5,12 +5,10 @@ use mathlib.Core.Path.{_≡_}
 use mathlib.Core.Bool.{Bool, true, false, not}
 use mathlib.Core.List.{List}
 use lib.ListN.{length}
-use lib.Dec.{eqb}
-use borrow.Author.Tests.{eqb-true, not-false}
 use Rattle.words.specs.declared.settings.Settings.{Settings}
 use Rattle.words.proofs.Refusals.{accepted}
 use Rattle.words.proofs.SettingsLaws.{settings-agreed}
-use Rattle.memory.specs.Map.{ramRefused}
+use Rattle.memory.proofs.Places.{ram-between}
 use Rattle.cells.proofs.Sizes.{cell-sized, window-nonempty}
 use Rattle.cells.proofs.Block.{stack-nonempty}
 use Rattle.arrival.specs.Target.{cellFor, targetOf}
@@ -18,29 +16,25 @@ use Rattle.message.specs.Answer.{groundsFor, refusalFor}
 use Rattle.decide.specs.Ready.{Ready}
 use Rattle.message.proofs.Sure.{accepted-sure}
 
-ram-short : (n : ℕ) → ramRefused n ≡ false → n ≤ 65536
-unfolding ramRefused
-ram-short n e = omega (arith, eqb-true n 4096 (not-false (eqb n 4096) e))
-
 pub accepted-ready :
-    (ram : List ℕ) (room : ℕ) (s : Settings) (length layout : Bool) (command : ℕ) →
-    refusalFor ram room s length layout command ≡ 0 → Ready ram s command
+    (ram : List ℕ) (room : ℕ) (s : Settings) (short broken : Bool) (command : ℕ) →
+    refusalFor ram room s short broken command ≡ 0 → Ready ram s command
 unfolding refusalFor groundsFor targetOf cellFor
-accepted-ready ram room s length layout command e =
-    let a = accepted (groundsFor ram room s length layout command) .0 e in
-    let f = accepted-sure ram room s length layout command e in
-    let short = ram-short _ (a .ram) in
+accepted-ready ram room s short broken command e =
+    let a = accepted (groundsFor ram room s short broken command) .0 e in
+    let f = accepted-sure ram room s short broken command e in
+    let most = ram-between (length ram) (a .ram) .1 in
     let c = cellFor ram s command in
     record {
       address = omega (arith, settings-agreed s (f .agreed) .address);
       window =
           record {
             some = window-nonempty (c .scheme) (c .pointer) (cell-sized _ _ _ _);
-            ends = omega (arith, short, f .cell .inside);
+            ends = omega (arith, most, f .cell .inside);
           };
       stack =
           record {
             some = stack-nonempty ram s (f .agreed) (f .stack);
-            ends = omega (arith, short, f .stack .inside);
+            ends = omega (arith, most, f .stack .inside);
           };
     }

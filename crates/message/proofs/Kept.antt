@@ -7,24 +7,21 @@ use mathlib.Core.Logic.{_⊎_, ⊎-elim}
 use mathlib.Core.Bool.{Bool}
 use mathlib.Core.List.{List}
 use lib.ListN.{length, getD}
-use borrow.Author.Tests.{lt-ltb, le-ltb}
 use Rattle.records.specs.declared.value.Record.{Record}
 use Rattle.words.specs.declared.settings.Settings.{Settings}
 use Rattle.words.specs.Command.{subaddressOf}
-use Rattle.words.proofs.Basics.{lt-or-ge, eq-or-ne}
+use Rattle.words.proofs.Basics.{eq-or-ne}
 use Rattle.memory.specs.declared.kind.Kind.{Kind}
-use Rattle.cells.specs.declared.cell.Cell.{Cell}
-use Rattle.windows.specs.declared.window.Window.{Window}
-use Rattle.cells.specs.declared.cell.Scheme.the-variants.{Double}
 use Rattle.memory.specs.Map.{lookupPlace, controlPlace, busyPlace, illegalPlace}
 use Rattle.memory.specs.Kind.{kindNumbered, cellNumber, kindOf}
 use Rattle.cells.specs.Cell.{cellAt, cellWindow}
 use Rattle.cells.specs.Stack.{stackWindow}
 use Rattle.area.specs.Area.{cellNumbered}
 use Rattle.windows.proofs.Wrap.{SameRun}
-use Rattle.cells.proofs.Sound.{CellSound, sound-block}
+use Rattle.cells.proofs.Described.{cell-words}
+use Rattle.cells.proofs.Sound.{CellSound, sound-block, sound-same}
 use Rattle.cells.proofs.Block.{StackSound, stack-moved-same, stack-moved}
-use Rattle.memory.proofs.Numbers.{number-below, number-differs}
+use Rattle.memory.proofs.Numbers.{number-back, number-below, number-differs}
 use Rattle.area.proofs.Listed.{read-listed}
 use Rattle.memory.proofs.Places.{lookup-between, control-between, stack-pointer-between, busy-between, illegal-between, lookup-differs, lookup-not-control, lookup-not-stack-pointer, control-not-stack-pointer}
 use Rattle.area.proofs.Whole.{AreaFine, SoundAt}
@@ -56,47 +53,6 @@ nothing-changed s ram =
       busy = λ own command. refl;
       illegal = λ own command. refl;
       window = λ kind sub h. record { start = refl; size = refl };
-    }
-
--- the number of a cell gives it back
-pub number-back : (n : ℕ) → n < 96 → cellNumber (kindNumbered n) (n % 32) ≡ n
-unfolding kindNumbered cellNumber
-number-back n h =
-    ⊎-elim
-    (λ (l : n < 32). rw (lt-ltb n 32 l) (omega arith))
-    (λ (l : 32 ≤ n).
-    ⊎-elim
-    (λ (g : n < 64). rw (le-ltb n 32 l, lt-ltb n 64 g) (omega arith))
-    (λ (g : 64 ≤ n). rw (le-ltb n 32 l, le-ltb n 64 g) (omega arith))
-    (lt-or-ge n 64))
-    (lt-or-ge n 32)
-
--- a cell is what its lookup word and its control word say
-pub cell-words :
-    (m n : List ℕ) (s : Settings) (kind : Kind) (sub : ℕ) →
-    getD m (lookupPlace (s .area) (cellNumber kind sub)) 0 ≡ getD n (lookupPlace (s .area) (cellNumber kind sub)) 0 →
-    getD m (controlPlace (s .area) sub) 0 ≡ getD n (controlPlace (s .area) sub) 0 →
-    cellAt m (s .area) kind sub ≡ cellAt n (s .area) kind sub
-unfolding cellAt
-cell-words m n s kind sub e g = rw (e, g)
-
--- a cell whose window is the same, with the pointer in it, is as sound
-sound-same :
-    (long : ℕ) (block : Window) (c d : Cell) →
-    CellSound long block c →
-    d .scheme ≡ c .scheme →
-    SameRun (cellWindow d) (cellWindow c) →
-    d .pointer < cellWindow c .start + cellWindow c .size →
-    (c .scheme ≡ Double → d .pointer % 32 ≡ 0) →
-    CellSound long block d
-sound-same long block c d f e k l m =
-    record {
-      pointer = omega (arith, f .inside);
-      inside = rw (k .start, k .size) (f .inside);
-      double = λ h. m (cc);
-      fixed =
-          record { tables = rw (k .start, k .size) (f .fixed .tables); illegal = rw (k .start, k .size) (f .fixed .illegal) };
-      stack = rw (k .start, k .size) (f .stack);
     }
 
 module _ (ram : List ℕ) (s : Settings) (v : Record) (f : Sure ram s (v .command)) where
@@ -144,7 +100,7 @@ module _ (ram : List ℕ) (s : Settings) (v : Record) (f : Sure ram s (v .comman
       (cellNumber kind sub ≡ number → ⊥) →
       cellAt after (s .area) kind sub ≡ cellAt ram (s .area) kind sub
   other-cell kind sub h n =
-      cell-words after ram s kind sub (lookup-stays (cellNumber kind sub) (number-below kind sub h) n) (control-stays sub h)
+      cell-words after ram (s .area) kind sub (lookup-stays (cellNumber kind sub) (number-below kind sub h) n) (control-stays sub h)
 
   -- its own cell has the pointer where rule 5 leaves it, and is otherwise as it was
   pub own-pointer : cellFor after s (v .command) .pointer ≡ deedFor ram s v .motion .after

@@ -17,12 +17,12 @@ use Rattle.words.proofs.Basics.{yes-or-no}
 use Rattle.words.proofs.Refusals.{accepted}
 use Rattle.memory.specs.Map.{lookupPlace, stackPointerPlace}
 use Rattle.cells.specs.Stack.{stackWindow}
+use Rattle.windows.proofs.Meets.{Outside}
 use Rattle.arrival.specs.Target.{targetOf}
 use Rattle.decide.specs.Plan.{planOf}
 use Rattle.carry.specs.Reply.{replyWords}
 use Rattle.message.specs.Answer.{groundsFor, refusalFor, ramFor, replyFor}
 use Rattle.message.specs.Message.{ramAfterValue, replyAfterValue, ramAfterBytes, replyAfterBytes}
-use Rattle.carry.proofs.Footprint.{Outside}
 use Rattle.message.proofs.Sure.{accepted-sure}
 use Rattle.message.proofs.Step.{elsewhere, deedFor}
 use Rattle.message.proofs.Kept.{Kept, message-keeps, nothing-changed}

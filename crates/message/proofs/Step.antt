@@ -17,9 +17,10 @@ use Rattle.memory.specs.Kind.{kindOf}
 use Rattle.cells.specs.Cell.{cellAt}
 use Rattle.cells.specs.Stack.{stackPointer, stackWindow}
 use Rattle.windows.proofs.Wrap.{place-from, place-below}
+use Rattle.windows.proofs.Meets.{Outside}
 use Rattle.cells.proofs.Sizes.{Sized, cell-sized, window-nonempty}
 use Rattle.cells.proofs.Sound.{sound-address}
-use Rattle.cells.proofs.Block.{stack-word-from, stack-word-below, stack-address}
+use Rattle.cells.proofs.Block.{stack-word-from, stack-word-below, stack-address, tables-off, illegal-off}
 use Rattle.memory.proofs.Numbers.{number-below}
 use Rattle.memory.proofs.Places.{lookup-between, stack-pointer-between, lookup-not-stack-pointer, ordinary-not-lookup, ordinary-not-stack-pointer}
 use Rattle.decide.specs.declared.plan.Deed.{Deed}
@@ -28,7 +29,7 @@ use Rattle.deed.specs.Deed.{wordsStored, actWith, actOf, motionWith, motionOf}
 use Rattle.decide.specs.Plan.{deedOf, entryOf, planOf}
 use Rattle.carry.specs.Writes.{applyWrites, writesTo, dataWrites, pointerWrites, descriptorOf, entryWrites, stackPointerWrites, deedWrites, stackWrites, writesOf}
 use Rattle.carry.proofs.Writes.{apply-append, length-apply}
-use Rattle.carry.proofs.Footprint.{Avoids, untouched, avoids-append, avoids-places, Outside, written}
+use Rattle.carry.proofs.Footprint.{Avoids, untouched, avoids-append, avoids-places, written}
 use Rattle.message.proofs.Sure.{Sure}
 
 -- RAM after an accepted message, and after its deed alone
@@ -149,17 +150,11 @@ module _ (ram : List ℕ) (s : Settings) (v : Record) where
     elsewhere a l w h p =
         beyond-stack a h p ∙ untouched a (deedWrites s (deedFor ram s v) v) ram (deed-avoids a l w)
 
-    -- no address of the memory map's tables lies in the window or in the stack's block
-    pub tables-clear : (a : ℕ) → 0x100 ≤ a → a < 0x248 → Outside (stackWindow ram s) a
-    tables-clear a l h i j = stack-address ram s (f .stack) a i j .tables l h
-
+    -- no address of the memory map's tables lies in the window
     pub tables-outside : (a : ℕ) → 0x100 ≤ a → a < 0x248 → Outside (targetOf ram s (v .command) .window) a
     unfolding targetOf
     tables-outside a l h i j =
         sound-address (length ram) (stackWindow ram s) (cellFor ram s (v .command)) (f .cell) a i j .ordinary .tables l h
-
-    pub illegal-clear : (a : ℕ) → 0x300 ≤ a → a < 0x400 → Outside (stackWindow ram s) a
-    illegal-clear a l h i j = stack-address ram s (f .stack) a i j .illegal l h
 
     pub illegal-outside : (a : ℕ) → 0x300 ≤ a → a < 0x400 → Outside (targetOf ram s (v .command) .window) a
     unfolding targetOf
@@ -174,13 +169,13 @@ module _ (ram : List ℕ) (s : Settings) (v : Record) where
         (a ≡ lookupPlace (s .area) (targetOf ram s (v .command) .number) → ⊥) →
         (a ≡ stackPointerPlace (s .area) → ⊥) →
         getD (afterMessage ram s v) a 0 ≡ getD ram a 0
-    tables-stay a l h q p = elsewhere a q (inr (tables-outside a l h)) (tables-clear a l h) p
+    tables-stay a l h q p = elsewhere a q (inr (tables-outside a l h)) (tables-off ram s (f .stack) a l h) p
 
     pub illegal-stay : (a : ℕ) → 0x300 ≤ a → a < 0x400 → getD (afterMessage ram s v) a 0 ≡ getD ram a 0
     illegal-stay a l h =
         let p = stack-pointer-between (s .area) in
         let q = lookup-between (s .area) (targetOf ram s (v .command) .number) cell-low in
-        elsewhere a (λ e. omega arith) (inr (illegal-outside a l h)) (illegal-clear a l h) (λ e. omega arith)
+        elsewhere a (λ e. omega arith) (inr (illegal-outside a l h)) (illegal-off ram s (f .stack) a l h) (λ e. omega arith)
 
     -- "The stack pointer moves on by 4, wrapping."
     pub stack-moves : stackPointer (afterMessage ram s v) s ≡ placeOf (stackWindow ram s) 4
@@ -227,7 +222,7 @@ module _ (ram : List ℕ) (s : Settings) (v : Record) where
         let m = applyWrites words ram in
         let l : a < length m = rw length-apply (omega (arith, f .long)) in
         let e =
-        beyond-stack a (tables-clear a (omega arith) (omega arith)) (lookup-not-stack-pointer (s .area) number cell-low) in
+        beyond-stack a (tables-off ram s (f .stack) a (omega arith) (omega arith)) (lookup-not-stack-pointer (s .area) number cell-low) in
         let g = apply-append words (pointerWrites s d) ram in
         ⊎-elim
         (λ (moved : d .motion .moves ≡ true). e ∙ rw (g, moved) (getD-set-same m a (d .motion .after) 0 l))

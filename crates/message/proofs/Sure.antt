@@ -6,14 +6,13 @@ use mathlib.Core.Path.{_≡_}
 use mathlib.Core.Bool.{Bool, true, false, not}
 use mathlib.Core.List.{List}
 use lib.ListN.{length}
-use lib.Dec.{eqb}
-use borrow.Author.Tests.{eqb-true, not-false}
+use borrow.Author.Tests.{not-false}
 use Rattle.words.specs.declared.settings.Settings.{Settings}
 use Rattle.words.specs.Command.{isModeSubaddress}
 use Rattle.words.specs.Settings.{settingsRefused}
 use Rattle.words.proofs.Commands.{data-subaddress}
 use Rattle.words.proofs.Refusals.{accepted}
-use Rattle.memory.specs.Map.{ramRefused}
+use Rattle.memory.proofs.Places.{ram-between}
 use Rattle.cells.specs.Cell.{soundCell}
 use Rattle.cells.specs.Stack.{stackWindow, stackSound}
 use Rattle.cells.proofs.Sound.{CellSound, sound-cell-facts}
@@ -28,10 +27,6 @@ pub record Sure (ram : List ℕ) (s : Settings) (command : ℕ) : Type 0 where
   pub stack : StackSound ram s
   pub cell : CellSound (length ram) (stackWindow ram s) (cellFor ram s command)
 
-ram-long : (n : ℕ) → ramRefused n ≡ false → 0x400 ≤ n
-unfolding ramRefused
-ram-long n e = omega (arith, eqb-true n 4096 (not-false (eqb n 4096) e))
-
 -- a message that no number refuses
 pub accepted-sure :
     (ram : List ℕ) (room : ℕ) (s : Settings) (short broken : Bool) (command : ℕ) →
@@ -42,7 +37,7 @@ accepted-sure ram room s short broken command e =
     let g = groundsFor ram room s short broken command in
     let a = accepted g .0 e in
     record {
-      long = ram-long (length ram) (a .ram);
+      long = ram-between (length ram) (a .ram) .0;
       agreed = a .settings;
       stack = stack-sound-facts ram s (not-false (stackSound ram s) (a .stack));
       cell =
@@ -57,7 +52,7 @@ unfolding cellFor
 fine-sure ram s command f e =
     let d = data-subaddress command e in
     record {
-      long = ram-long (length ram) (f .accepted .ram-accepted);
+      long = ram-between (length ram) (f .accepted .ram-accepted) .0;
       agreed = f .accepted .settings-accepted;
       stack = f .accepted .stack-sound;
       cell = fine-command ram s command f (d .from) (d .to);

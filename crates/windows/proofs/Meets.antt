@@ -1,4 +1,5 @@
--- Whether two runs of words share one: the test is symmetric, and says no exactly where no address lies in both.
+-- Whether two runs of words share one: the test is symmetric, and says no exactly where no address lies in both. An address
+-- lies in a window or outside.
 use Prim.Native.Nat.{ℕ, _+_, _≤_, _<_}
 use native.Mathlib.Omega.{arith}
 use mathlib.Core.Path.{_≡_}
@@ -81,6 +82,18 @@ place-not-at w b m k x h e p q s = place-apart w b m k h e (omega arith) (omega 
 
 pub windows-swap : (v w : Window) → windowsMeet v w ≡ windowsMeet w v
 windows-swap v w = meets-swap (v .start) (v .size) (w .start) (w .size)
+
+-- address a lies outside the window
+abbrev pub Outside : Window → ℕ → Type 0
+Outside w a = w .start ≤ a → a < w .start + w .size → ⊥
+
+pub in-or-out : (w : Window) (a : ℕ) → ((w .start ≤ a) × (a < w .start + w .size)) ⊎ Outside w a
+in-or-out w a =
+    ⊎-elim (λ (l : a < w .start). inr (λ p q. omega arith))
+    (λ (l : w .start ≤ a).
+    ⊎-elim (λ (h : a < w .start + w .size). inl (l, h)) (λ (h : w .start + w .size ≤ a). inr (λ p q. omega arith))
+    (lt-or-ge a (w .start + w .size)))
+    (lt-or-ge a (w .start))
 
 -- windows that do not meet share no place
 pub places-apart :

@@ -128,6 +128,9 @@ pub record SameRun (v w : Window) : Type 0 where
   pub start : v .start ≡ w .start
   pub size : v .size ≡ w .size
 
+pub same-back : (v w : Window) → SameRun v w → SameRun w v
+same-back v w k = record { start = sym (k .start); size = sym (k .size) }
+
 pub aligned-same :
     (p n q : ℕ) → aligned p n .start ≤ q → q < aligned p n .start + n → SameRun (aligned q n) (aligned p n)
 aligned-same p n q l h =
