@@ -103,6 +103,18 @@ classes! {
     Area9Broadcast "whole-area check: 9, a broadcast cell",
 }
 
+/// The classes of the yes/no settings, on and off.
+const SWITCHED: [(Class, Class); 8] = [
+    (Class::YesOverwrite, Class::NoOverwrite),
+    (Class::YesSeparate, Class::NoSeparate),
+    (Class::YesIllegalDisable, Class::NoIllegalDisable),
+    (Class::YesBusyDisable, Class::NoBusyDisable),
+    (Class::BusyAlways, Class::NoBusyAlways),
+    (Class::YesService, Class::NoService),
+    (Class::YesSubsystem, Class::NoSubsystem),
+    (Class::YesTerminal, Class::NoTerminal),
+];
+
 /// What the cell and the stack were before a message.
 pub struct Before {
     cell: Option<(Cell, Stack)>,
@@ -141,7 +153,7 @@ impl Coverage {
         } else if let (Some(record), Some((cell, stack))) =
             (record_of(&request.message), &before.cell)
         {
-            self.take_in_settings(&request.settings);
+            self.take_in_settings(request.settings);
             self.take_in_place(cell, stack);
             self.take_in_accepted(&request.settings, &record, cell, answer);
         }
@@ -179,48 +191,16 @@ impl Coverage {
         }
     }
 
-    fn take_in_settings(&mut self, settings: &Settings) {
-        self.either(Class::AreaB, Class::AreaA, settings.area_b);
-        self.note(Class::Stack256, settings.stack_size == 256);
-        self.note(Class::Stack512, settings.stack_size == 512);
-        self.note(Class::Stack1024, settings.stack_size == 1024);
-        self.note(Class::Stack2048, settings.stack_size == 2048);
-        self.either(
-            Class::YesOverwrite,
-            Class::NoOverwrite,
-            settings.overwrite_invalid,
-        );
-        self.either(
-            Class::YesSeparate,
-            Class::NoSeparate,
-            settings.separate_broadcast,
-        );
-        self.either(
-            Class::YesIllegalDisable,
-            Class::NoIllegalDisable,
-            settings.illegal_receive_disable,
-        );
-        self.either(
-            Class::YesBusyDisable,
-            Class::NoBusyDisable,
-            settings.busy_receive_disable,
-        );
-        self.either(Class::BusyAlways, Class::NoBusyAlways, settings.busy_always);
-        self.either(
-            Class::YesService,
-            Class::NoService,
-            settings.service_request,
-        );
-        self.either(
-            Class::YesSubsystem,
-            Class::NoSubsystem,
-            settings.subsystem_flag,
-        );
-        self.either(
-            Class::YesTerminal,
-            Class::NoTerminal,
-            settings.terminal_flag,
-        );
+    fn take_in_settings(&mut self, mut settings: Settings) {
+        use Class::*;
+        self.either(AreaB, AreaA, settings.area_b);
+        self.note(Stack256, settings.stack_size == 256);
+        self.note(Stack512, settings.stack_size == 512);
+        self.note(Stack1024, settings.stack_size == 1024);
+        self.note(Stack2048, settings.stack_size == 2048);
+        for ((yes, no), (_, switch)) in SWITCHED.into_iter().zip(Settings::SWITCHES) {
+            self.either(yes, no, *switch(&mut settings));
+        }
     }
 
     fn take_in_place(&mut self, cell: &Cell, stack: &Stack) {
@@ -257,30 +237,26 @@ impl Coverage {
         cell: &Cell,
         answer: &Answer,
     ) {
+        self.note(Class::Accepted, true);
+        self.take_in_record(record);
+        self.take_in_answer(settings, answer);
+        let moved = if Command(record.command).is_transmit() {
+            answer.data_words
+        } else {
+            self.take_in_stored(settings, record, answer)
+        };
+        self.take_in_pointer(cell, moved, answer);
+    }
+
+    fn take_in_record(&mut self, record: &Record) {
         use Class::*;
         let command = Command(record.command);
-        let has = |bit: u32| answer.block_status >> bit & 1 == 1;
-        let faulty = has(12);
-        let illegal = has(6);
-        let busy = answer.status & 8 != 0;
-        self.note(Accepted, true);
         self.note(BusB, record.has_flag(FLAG_BUS_B));
-        self.note(CountFault, has(5));
         self.note(SyncFault, record.has_flag(FLAG_WRONG_SYNC));
         self.note(InvalidWord, record.has_flag(FLAG_INVALID_WORD));
-        self.note(SyncAndInvalid, has(4) && has(3));
         self.note(CountZero, record.count == 0);
         self.note(CountOver, record.count == TOO_MANY);
         self.note(CountFieldZero, command.count_field() == 0);
-        self.note(Illegal, illegal);
-        self.note(Busy, busy && !settings.busy_always);
-        self.note(Rollover, has(7));
-        self.note(RolloverInterrupt, answer.interrupt & 0x0400 != 0);
-        self.note(EndInterrupt, answer.interrupt & 0x0004 != 0);
-        self.note(StackWrapped, answer.interrupt & 0x0040 != 0);
-        self.note(NoStatus, !answer.sent);
-        self.note(WordsSent, answer.data_words > 0);
-        self.note(Sent32, answer.data_words == 32);
         let class = match (command.is_broadcast(), command.is_transmit()) {
             (false, false) => OwnReceive,
             (false, true) => OwnTransmit,
@@ -288,23 +264,48 @@ impl Coverage {
             (true, true) => BroadcastTransmit,
         };
         self.note(class, true);
+    }
 
-        let mut moved = answer.data_words;
-        if !command.is_transmit() {
-            let held = record.count.min(command.word_count());
-            let by_illegal = illegal && settings.illegal_receive_disable;
-            let by_busy = busy && settings.busy_receive_disable;
-            let withheld = by_illegal || by_busy;
-            self.note(WithheldIllegal, by_illegal && held > 0);
-            self.note(WithheldBusy, by_busy && held > 0);
-            self.note(FaultyWithheld, withheld && held > 0 && faulty);
-            moved = if withheld { 0 } else { held };
+    fn take_in_answer(&mut self, settings: &Settings, answer: &Answer) {
+        use Class::*;
+        self.note(CountFault, answer.block_status & 0x0020 != 0);
+        self.note(SyncAndInvalid, answer.block_status & 0x0018 == 0x0018);
+        self.note(Illegal, is_illegal(answer));
+        self.note(Busy, is_busy(answer) && !settings.busy_always);
+        self.note(Rollover, answer.block_status & 0x0080 != 0);
+        self.note(RolloverInterrupt, answer.interrupt & 0x0400 != 0);
+        self.note(EndInterrupt, answer.interrupt & 0x0004 != 0);
+        self.note(StackWrapped, answer.interrupt & 0x0040 != 0);
+        self.note(NoStatus, !answer.sent);
+        self.note(WordsSent, answer.data_words > 0);
+        self.note(Sent32, answer.data_words == 32);
+    }
+
+    /// Takes in what became of the words of a receive command; returns how
+    /// many were stored.
+    fn take_in_stored(&mut self, settings: &Settings, record: &Record, answer: &Answer) -> u16 {
+        use Class::*;
+        let held = record.count.min(Command(record.command).word_count());
+        let by_illegal = is_illegal(answer) && settings.illegal_receive_disable;
+        let by_busy = is_busy(answer) && settings.busy_receive_disable;
+        let withheld = by_illegal || by_busy;
+        self.note(WithheldIllegal, by_illegal && held > 0);
+        self.note(WithheldBusy, by_busy && held > 0);
+        self.note(FaultyWithheld, withheld && held > 0 && is_faulty(answer));
+        if withheld {
+            0
+        } else {
+            held
         }
+    }
+
+    /// Takes in where the pointer went after so many words.
+    fn take_in_pointer(&mut self, cell: &Cell, moved: u16, answer: &Answer) {
+        use Class::*;
+        let faulty = is_faulty(answer);
         let pointer_moved = answer.pointer_after != answer.pointer_before;
-        self.note(
-            PointerFlipped,
-            cell.scheme == Scheme::Double && pointer_moved,
-        );
+        let double = cell.scheme == Scheme::Double;
+        self.note(PointerFlipped, double && pointer_moved);
         if let Scheme::Circular(size) = cell.scheme {
             let end = cell.pointer % size + moved;
             self.note(PointerMoved, pointer_moved);
@@ -315,9 +316,22 @@ impl Coverage {
             self.note(EndMissed, end + 1 == size && moved > 0);
         }
     }
+
     fn either(&mut self, yes: Class, no: Class, holds: bool) {
         self.note(if holds { yes } else { no }, true);
     }
+}
+
+fn is_faulty(answer: &Answer) -> bool {
+    answer.block_status & 0x1000 != 0
+}
+
+fn is_illegal(answer: &Answer) -> bool {
+    answer.block_status & 0x0040 != 0
+}
+
+fn is_busy(answer: &Answer) -> bool {
+    answer.status & 0x0008 != 0
 }
 
 /// The record of a message, if it is one.

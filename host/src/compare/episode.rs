@@ -114,23 +114,7 @@ impl Episode {
             message: self.message(command),
             checks_area: self.random.chance(4),
         };
-        if self.random.chance(SPOILED_ONE_IN) {
-            let lengths = [
-                0,
-                1,
-                256,
-                RAM_WORDS - 1,
-                RAM_WORDS + 1,
-                RAM_WORDS + GUARD_WORDS,
-            ];
-            request.ram_words = self.random.pick(&lengths);
-        }
-        if self.random.chance(SPOILED_ONE_IN) {
-            request.reply_words = self.random.pick(&[0, 1, 16, REPLY_WORDS - 1]);
-        }
-        if self.random.chance(SPOILED_ONE_IN) {
-            self.spoil_settings(&mut request.settings);
-        }
+        self.spoil_request(&mut request);
         if self.random.chance(SPOILED_ONE_IN) {
             self.spoil_stack(state);
         }
@@ -138,6 +122,27 @@ impl Episode {
             self.spoil_cell(state, command);
         }
         request
+    }
+
+    /// Now and then, too little or too much is lent, or no terminal is set so.
+    fn spoil_request(&mut self, request: &mut Request) {
+        const LENGTHS: [usize; 6] = [
+            0,
+            1,
+            256,
+            RAM_WORDS - 1,
+            RAM_WORDS + 1,
+            RAM_WORDS + GUARD_WORDS,
+        ];
+        if self.random.chance(SPOILED_ONE_IN) {
+            request.ram_words = self.random.pick(&LENGTHS);
+        }
+        if self.random.chance(SPOILED_ONE_IN) {
+            request.reply_words = self.random.pick(&[0, 1, 16, REPLY_WORDS - 1]);
+        }
+        if self.random.chance(SPOILED_ONE_IN) {
+            self.spoil_settings(&mut request.settings);
+        }
     }
 
     pub fn pokes(&self) -> &[Poke] {

@@ -2,6 +2,7 @@
 //! difference.
 
 use super::episode::Episode;
+use super::shrink::Shrinking;
 use crate::random::Random;
 use crate::terminal::cells::RAM_WORDS;
 use crate::terminal::records::RECORD_BYTES;
@@ -61,44 +62,54 @@ pub fn long_trace(records: usize) -> Vec<u8> {
 
 /// The smallest trace found on which the difference stays.
 pub fn shrink_trace(trace: &[u8], differs: impl Fn(&[u8]) -> bool) -> Vec<u8> {
-    let mut smallest = trace.to_vec();
-    let take = |smallest: &mut Vec<u8>, change: &dyn Fn(&mut Vec<u8>)| {
-        let mut changed = smallest.clone();
-        change(&mut changed);
-        let keep = changed != *smallest && differs(&changed);
-        if keep {
-            *smallest = changed;
-        }
-        keep
-    };
-    if smallest.len() > IMAGE_BYTES {
-        let mut size = (smallest.len() - IMAGE_BYTES).next_power_of_two();
+    let mut shrinking = Shrinking::new(&trace.to_vec(), |trace: &Vec<u8>| differs(trace));
+    shrinking.drop_records();
+    shrinking.zero_image();
+    shrinking.zero_records();
+    shrinking.smallest
+}
+
+impl<F: Fn(&Vec<u8>) -> bool> Shrinking<Vec<u8>, F> {
+    /// Takes records away, fewer and fewer at a time, and the tail.
+    fn drop_records(&mut self) {
+        let mut size = match self.smallest.len().checked_sub(IMAGE_BYTES) {
+            Some(bytes) => bytes.next_power_of_two(),
+            None => return,
+        };
         while size >= RECORD_BYTES {
             // Whole records, so that those behind stay records.
             let bytes = size / RECORD_BYTES * RECORD_BYTES;
             let mut start = IMAGE_BYTES;
-            while start < smallest.len() {
-                let end = smallest.len().min(start + bytes);
-                if !take(&mut smallest, &|trace| drop(trace.drain(start..end))) {
+            while start < self.smallest.len() {
+                let end = self.smallest.len().min(start + bytes);
+                if !self.take(|trace| drop(trace.drain(start..end))) {
                     start = end;
                 }
             }
             size /= 2;
         }
     }
-    let mut size = IMAGE_BYTES;
-    while size >= 2 {
-        for start in (0..IMAGE_BYTES.min(smallest.len())).step_by(size) {
-            let end = smallest.len().min(start + size);
-            take(&mut smallest, &|trace| trace[start..end].fill(0));
+
+    /// Zeroes the image, in blocks that become smaller.
+    fn zero_image(&mut self) {
+        let length = IMAGE_BYTES.min(self.smallest.len());
+        let mut size = IMAGE_BYTES;
+        while size >= 2 {
+            for start in (0..length).step_by(size) {
+                let end = self.smallest.len().min(start + size);
+                self.take(|trace| trace[start..end].fill(0));
+            }
+            size /= 2;
         }
-        size /= 2;
     }
-    // Data words and the like, once there are few records left.
-    if smallest.len() <= IMAGE_BYTES + FEW * RECORD_BYTES {
-        for place in IMAGE_BYTES..smallest.len() {
-            take(&mut smallest, &|trace| trace[place] = 0);
+
+    /// Zeroes data words and the like, if there are few records left.
+    fn zero_records(&mut self) {
+        let length = self.smallest.len();
+        if length <= IMAGE_BYTES + FEW * RECORD_BYTES {
+            for place in IMAGE_BYTES..length {
+                self.take(|trace| trace[place] = 0);
+            }
         }
     }
-    smallest
 }
