@@ -1,15 +1,11 @@
-// Runs sessions of 80 messages in two orders, the second after many allowed exchanges of neighbours, and compares what demand 3
-// says; then two exchanges that are not allowed, and what they change. The output is stored in the file `stdout` beside src/
-// and compared at every check.
-mod chance;
-mod compare;
-mod forbidden;
-mod play;
-mod session;
-mod sessions;
+// Pairs of neighbours for the class, each in both orders: three that may change places and three that may not, with what each
+// message sends and what RAM then holds. The output is stored in the file `stdout` beside src/ and compared at every check.
+mod orders;
+mod pairs;
 mod show;
 
 fn main() {
-    sessions::all();
-    forbidden::all();
+    let ram = pairs::image();
+    pairs::allowed(ram);
+    pairs::forbidden(ram);
 }

@@ -1,28 +1,23 @@
-// Printing: a text, a number, a word, a truth value, a line's end.
+// Printing: a text, a word behind a text, whether two messages may change places.
 pub fn text(t: &[u8]) {
     io::write_all(1, t);
 }
 
-pub fn end() {
-    io::write_all(1, b"\n");
+fn digit(n: u16) -> u8 {
+    let d = (n % 16) as u8;
+    if d < 10 { 48 + d } else { 55 + d }
 }
 
-// A space and the number in decimal.
-pub fn number(n: u16) {
-    io::write_all(1, b" ");
-    io::print_decimal(1, n as u64);
+pub fn word(before: &[u8], w: u16) {
+    io::write_all(1, before);
+    let four = [digit(w / 4096), digit(w / 256), digit(w / 16), digit(w)];
+    io::write_all(1, &four);
 }
 
-// A space and the word in four hexadecimal digits.
-pub fn word(n: u16) {
-    io::write_all(1, b" ");
-    io::print_hex(1, n as u64, 4);
-}
-
-pub fn yes(b: bool) {
-    if b {
-        io::write_all(1, b" yes");
+pub fn places(may: bool) {
+    if may {
+        io::write_all(1, b": they may change places\n");
     } else {
-        io::write_all(1, b" no");
+        io::write_all(1, b": they may not change places\n");
     }
 }

@@ -1,10 +1,14 @@
 //! Lists of messages in two orders: this package's terminal is as demand 3
 //! says, and the comparison can fail.
 
+use std::fs;
+use std::path::Path;
+
 use plain_terminal::compare::Plain;
 use plain_terminal::exchange::draw::random_list;
 use plain_terminal::exchange::replay::{read_list, write_list};
 use plain_terminal::exchange::run::{differs, Met};
+use plain_terminal::exchange::said::Both;
 use plain_terminal::exchange::shrink::shrink_list;
 use plain_terminal::exchange::{compare_lists, Forgotten, List};
 use plain_terminal::terminal::Planted;
@@ -129,4 +133,77 @@ fn an_objection_says_why() {
         let objection = list.objection(&GOOD, Forgotten::Nothing);
         assert_eq!(objection.as_deref(), expected);
     }
+}
+
+/// What `crates/exchange_run` plays: its image, and its pairs of neighbours.
+const IMAGE: &str =
+    "ram 0100 0F00\nram 0143 0480 0500 0480\nram 0163 0580 0580 0480\nram 0580 5555\n";
+const PAIRS: [(&str, &str, &str); 6] = [
+    (
+        "two receives into different blocks",
+        "2861 words 1111",
+        "2881 words 2222",
+    ),
+    ("two transmits of one window", "2C61", "2C81"),
+    (
+        "a receive and a transmit, windows apart",
+        "2861 words 1111",
+        "2C81",
+    ),
+    (
+        "two receives into one cell",
+        "2861 words 1111",
+        "2861 words 2222",
+    ),
+    (
+        "two receives into one window",
+        "2861 words 1111",
+        "28A1 words 2222",
+    ),
+    (
+        "a receive and a transmit of its window",
+        "2861 words 1111",
+        "2CA1",
+    ),
+];
+
+/// What this terminal does with a pair, as `crates/exchange_run` prints it.
+fn printed(title: &str, list: &List) -> String {
+    let both = Both::play(&GOOD, list, |_, _, _| ());
+    let may = match list.objection(&GOOD, Forgotten::Nothing) {
+        None => "may",
+        Some(_) => "may not",
+    };
+    let mut text = format!("{title}: they {may} change places\n");
+    for played in [&both.old, &both.new] {
+        let told = played.order.iter().map(|&number| {
+            let message = &list.messages[number];
+            let mut words = format!("{:04X}", message.command);
+            for word in &message.words[..message.words_held()] {
+                words += &format!(" with {word:04X}");
+            }
+            words += " sends";
+            for word in &played.shown[number].reply {
+                words += &format!(" {word:04X}");
+            }
+            words
+        });
+        text += &format!("    {}\n", told.collect::<Vec<_>>().join(", "));
+    }
+    let (old, new) = (&both.old.end.ram, &both.new.end.ram);
+    for place in (0..0x0F00).filter(|&place| old[place] != new[place]) {
+        let (old, new) = (old[place], new[place]);
+        text += &format!("    ram {place:04X} ends as {old:04X} or as {new:04X}\n");
+    }
+    text
+}
+
+#[test]
+fn the_pairs_for_the_class_do_what_is_stored() {
+    let pairs = PAIRS.map(|(title, first, second)| {
+        let text = format!("{IMAGE}message {first}\nmessage {second}\nexchange 1\n");
+        printed(title, &read_list(&text).unwrap())
+    });
+    let file = Path::new(env!("CARGO_MANIFEST_DIR")).join("../crates/exchange_run/stdout");
+    assert_eq!(pairs.concat(), fs::read_to_string(file).unwrap());
 }
