@@ -31,13 +31,17 @@ fn blocks(document: &str) -> Vec<String> {
     blocks
 }
 
-/// What a command of the guide prints: `scripts/trace`, with changes or not.
+/// What a command of the guide prints: `scripts/trace`, with changes or not, or
+/// a test program, whose output is stored beside it.
 fn printed(command: &str) -> Option<String> {
     let words: Vec<&str> = command.split(' ').collect();
     let input = |file| pack(&fs::read(root().join(file)).unwrap()).unwrap();
     let output = match words[..] {
         ["$", "scripts/trace", "--changes", file] => trace_with_changes(&input(file)),
         ["$", "scripts/trace", file] => trace_output(&input(file)),
+        ["$", "scripts/run-program", name] => {
+            fs::read(root().join(format!("crates/{name}/stdout"))).unwrap()
+        }
         _ => return None,
     };
     Some(String::from_utf8(output).unwrap())
@@ -56,7 +60,7 @@ fn the_commands_print_what_is_shown() {
             commands += 1;
         }
     }
-    assert_eq!(commands, 4);
+    assert_eq!(commands, 5);
 }
 
 #[test]
