@@ -1,11 +1,14 @@
 //! A list played in an order, and what each of its messages shows.
 
+use std::fmt::{self, Write};
+
 use super::list::List;
 use crate::compare::case::{ask, Answers, Message, Request, State};
 use crate::compare::coverage::Before;
 use crate::compare::Side;
 use crate::terminal::cells::{Stack, DESCRIPTOR_WORDS, RAM_WORDS};
 use crate::terminal::{write_record, Answer};
+use crate::text::write_words;
 
 /// Interrupt bit 6: the stack wrapped.
 const STACK_ROLLOVER: u16 = 0x0040;
@@ -25,19 +28,18 @@ impl Shown {
         self.answer.interrupt & STACK_ROLLOVER != 0
     }
 
-    /// A line for a person to read.
-    pub fn line(&self) -> String {
-        let hex =
-            |words: &[u16]| -> String { words.iter().map(|word| format!(" {word:04X}")).collect() };
-        match self.answer.number {
-            0 => format!(
-                "descriptor{}, interrupt word {:04X}, sends{}",
-                hex(&self.descriptor),
-                self.answer.interrupt,
-                hex(&self.reply)
-            ),
-            number => format!("refused with {number}"),
+    /// What is shown, for a person to read.
+    pub fn write(&self, text: &mut String) -> fmt::Result {
+        let Answer {
+            number, interrupt, ..
+        } = self.answer;
+        if number != 0 {
+            return write!(text, "refused with {number}");
         }
+        text.push_str("descriptor");
+        write_words(text, &self.descriptor)?;
+        write!(text, ", interrupt word {interrupt:04X}, sends")?;
+        write_words(text, &self.reply)
     }
 }
 

@@ -5,13 +5,15 @@
 //!
 //! - `exchange PLACE...`: for each place, counted from 1, the messages at it
 //!   and behind it change places, one exchange after the other.
+//!
+//! RAM is always lent whole.
 
 use super::list::List;
 use super::play::request;
 use crate::compare::case::{Case, Message};
 use crate::compare::replay::{read_case, write_case};
 use crate::terminal::{read_record, write_record, Record};
-use crate::text::TextError;
+use crate::text::{mismatch, shown, Mismatch, TextError, Tokens};
 
 /// The text of a list whose messages keep their layout.
 pub fn write_list(list: &List) -> String {
@@ -41,7 +43,7 @@ pub fn read_list(text: &str) -> Result<List, TextError> {
     let mut messages = Vec::new();
     let mut exchanges = Vec::new();
     for (index, line) in shared.iter_mut().enumerate() {
-        let lines = match line.split_whitespace().next() {
+        let lines = match Tokens::new(line).next() {
             Some("message" | "raw" | "bytes" | "value") => &mut messages,
             Some("exchange") => &mut exchanges,
             _ => continue,
@@ -49,14 +51,18 @@ pub fn read_list(text: &str) -> Result<List, TextError> {
         lines.push((index, std::mem::take(line)));
     }
     let (first, messages) = read_messages(&shared, &messages)?;
-    let exchanges = read_exchanges(&exchanges, messages.len())?;
-    Ok(List {
+    let mut list = List {
         settings: first.request.settings,
         start: first.state,
         reply_words: first.request.reply_words,
         messages,
-        exchanges,
-    })
+        exchanges: Vec::new(),
+    };
+    for (index, line) in exchanges {
+        let read = read_exchanges(line, &mut list);
+        read.map_err(|mismatch| mismatch.in_line(index + 1))?;
+    }
+    Ok(list)
 }
 
 /// The case of the first message, and every message's record: each message
@@ -78,32 +84,19 @@ fn read_messages(
             Message::Bytes(bytes) => read_record(&bytes).ok(),
             Message::Value(record) => Some(record),
         };
-        records.push(record.ok_or_else(|| TextError {
-            line: line.0 + 1,
-            found: "no record".into(),
-            expected: "a message that keeps its layout".into(),
-        })?);
+        let record = record.map_or_else(|| mismatch("no record", "80 bytes in the layout"), Ok);
+        records.push(record.map_err(|mismatch| mismatch.in_line(line.0 + 1))?);
     }
     Ok((case_with(lines.first())?, records))
 }
 
-/// The places of all exchanges, in a list of so many messages.
-fn read_exchanges(lines: &[(usize, &str)], messages: usize) -> Result<Vec<usize>, TextError> {
-    let mut exchanges = Vec::new();
-    for &(index, line) in lines {
-        let content = line.split('#').next().unwrap_or_default();
-        for token in content.split_whitespace().skip(1) {
-            match token.parse::<usize>() {
-                Ok(place) if (1..messages).contains(&place) => exchanges.push(place - 1),
-                _ => {
-                    return Err(TextError {
-                        line: index + 1,
-                        found: format!("{token:?}"),
-                        expected: format!("a place from 1 to {}", messages.saturating_sub(1)),
-                    })
-                }
-            }
+fn read_exchanges(line: &str, list: &mut List) -> Result<(), Mismatch> {
+    let last = list.messages.len().saturating_sub(1);
+    for token in Tokens::new(line).skip(1) {
+        match token.parse::<usize>() {
+            Ok(place) if (1..=last).contains(&place) => list.exchanges.push(place - 1),
+            _ => return mismatch(shown(Some(token)), format!("a place from 1 to {last}")),
         }
     }
-    Ok(exchanges)
+    Ok(())
 }

@@ -1,5 +1,7 @@
 //! Both orders of a list, and whether they are as demand 3 says.
 
+use std::fmt::{self, Write};
+
 use super::list::List;
 use super::play::{play, Played, Shown};
 use crate::compare::case::{Answers, Lines, Request};
@@ -35,17 +37,24 @@ impl Both {
         })
     }
 
-    /// What each message shows, in both orders.
+    /// A line for each message of both orders: what it shows.
     pub fn lines(&self) -> String {
         let mut text = String::new();
+        let written = self.write_lines(&mut text);
+        written.expect("writing to a string never fails");
+        text
+    }
+
+    fn write_lines(&self, text: &mut String) -> fmt::Result {
         for (name, played) in self.orders() {
-            text += &format!("{name} order:\n");
+            writeln!(text, "{name} order:")?;
             for &number in &played.order {
-                let shown = &played.shown[number];
-                text += &format!("message {}: {}\n", number + 1, shown.line());
+                write!(text, "message {}: ", number + 1)?;
+                played.shown[number].write(text)?;
+                writeln!(text)?;
             }
         }
-        text
+        Ok(())
     }
 
     /// A line for each difference: what is said, then what is so.

@@ -95,7 +95,7 @@ fn errors_in_a_list_name_the_line() {
         ),
         (
             "message 2861 words 1\nbytes 28\n",
-            "line 2: found no record, expected a message that keeps its layout",
+            "line 2: found no record, expected 80 bytes in the layout",
         ),
     ] {
         let error = read_list(text).unwrap_err().to_string();
