@@ -138,18 +138,10 @@ fn perform<const PLANTED: u8>(
     }
 
     let moved = move_words::<PLANTED>(ram, reply, settings, record, &judged, &cell);
-    let (pointer_after, rollover) =
-        next_pointer::<PLANTED>(&cell, moved, judged.is_valid(), settings);
-    if pointer_after != cell.pointer {
-        ram[lookup_place(settings, cell.kind, cell.subaddress)] = pointer_after;
-    }
+    let valid = judged.is_valid();
+    let (pointer_after, rollover) = move_pointer::<PLANTED>(ram, settings, &cell, moved, valid);
     let block_status = block_status(&judged, record, rollover);
-    let pointer_told = if PLANTED == POINTER_AFTER_IN_DESCRIPTOR {
-        pointer_after
-    } else {
-        cell.pointer
-    };
-    let descriptor = [block_status, record.tag, pointer_told, record.command];
+    let descriptor = descriptor::<PLANTED>(block_status, record, cell.pointer, pointer_after);
     let stack_wrapped = push_descriptor(ram, settings, &stack, &descriptor);
 
     let answer = Answer {
@@ -323,7 +315,22 @@ fn send(ram: &[u16], reply: &mut [u16], [first, second]: [Range<usize>; 2]) {
     wrapped.copy_from_slice(&ram[second]);
 }
 
-/// Rule 5: the pointer after `moved` words, and whether it rolled over.
+/// Rule 5; returns the new pointer, and whether it rolled over.
+fn move_pointer<const PLANTED: u8>(
+    ram: &mut [u16],
+    settings: &Settings,
+    cell: &Cell,
+    moved: u16,
+    valid: bool,
+) -> (u16, bool) {
+    let (pointer, rollover) = next_pointer::<PLANTED>(cell, moved, valid, settings);
+    if pointer != cell.pointer {
+        ram[lookup_place(settings, cell.kind, cell.subaddress)] = pointer;
+    }
+    (pointer, rollover)
+}
+
+/// The pointer after `moved` words, and whether it rolled over.
 fn next_pointer<const PLANTED: u8>(
     cell: &Cell,
     moved: u16,
@@ -347,6 +354,21 @@ fn next_pointer<const PLANTED: u8>(
             }
         }
     }
+}
+
+/// The words that rule 6 puts on the stack.
+fn descriptor<const PLANTED: u8>(
+    block_status: u16,
+    record: &Record,
+    pointer_before: u16,
+    pointer_after: u16,
+) -> [u16; DESCRIPTOR_WORDS] {
+    let pointer = if PLANTED == POINTER_AFTER_IN_DESCRIPTOR {
+        pointer_after
+    } else {
+        pointer_before
+    };
+    [block_status, record.tag, pointer, record.command]
 }
 
 /// Rule 6; returns whether the stack wrapped.
