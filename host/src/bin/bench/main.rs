@@ -1,0 +1,170 @@
+//! Measures the proved terminal against this package's own: the same messages
+//! on both, in one run.
+//!
+//! Prints one line for each row: its name, messages per second of plain Rust
+//! and of the proved terminal, and the ratio of the two (over 1 means that the
+//! proved one is faster) as median, smallest and largest of the repeats.
+
+mod rows;
+
+use std::env;
+use std::process::ExitCode;
+use std::time::Duration;
+
+use plain_terminal::clock::Clock;
+use plain_terminal::engine::boundary as proved;
+use plain_terminal::spread::Spread;
+use plain_terminal::terminal::boundary::{
+    self as plain, settings_words, ANSWER_WORDS, REMEMBERED_WORDS, SETTINGS_WORDS, VALUE_WORDS,
+};
+use plain_terminal::terminal::message::REPLY_WORDS;
+use plain_terminal::terminal::records::RECORD_BYTES;
+
+use rows::{rows, Row, Work};
+
+const USAGE: &str = "usage: bench, or bench --count ROW plain|proved MESSAGES";
+const REPEATS: usize = 11;
+const BATCH: Duration = Duration::from_millis(30);
+
+fn main() -> ExitCode {
+    let arguments: Vec<String> = env::args().skip(1).collect();
+    let arguments: Vec<&str> = arguments.iter().map(String::as_str).collect();
+    match arguments[..] {
+        [] => rows().iter().for_each(measure),
+        ["--count", name, side, messages] => return count(name, side, messages),
+        _ => return usage(),
+    }
+    ExitCode::SUCCESS
+}
+
+fn usage() -> ExitCode {
+    eprintln!("bench: {USAGE}");
+    ExitCode::from(2)
+}
+
+/// One side's functions over slices.
+struct Side {
+    message: fn(&mut [u16], &mut [u16], &[u16], &mut [u16], &[u8], &mut [u16]),
+    message_value: fn(&mut [u16], &mut [u16], &[u16], &mut [u16], &[u16], &mut [u16]),
+    check_area: fn(&[u16], &[u16]) -> u32,
+    read: fn(&[u8], &mut [u16]) -> u16,
+    write: fn(&[u16], &mut [u8]) -> u16,
+}
+
+const PLAIN: Side = Side {
+    message: plain::message,
+    message_value: plain::message_value,
+    check_area: plain::check_area,
+    read: plain::read,
+    write: plain::write,
+};
+
+const PROVED: Side = Side {
+    message: proved::message,
+    message_value: proved::message_value,
+    check_area: proved::check_area,
+    read: proved::read,
+    write: proved::write,
+};
+
+/// Runs one row on one side, for whoever counts instructions from outside.
+fn count(name: &str, side: &str, messages: &str) -> ExitCode {
+    let rows = rows();
+    let row = rows.iter().find(|row| row.name == name);
+    match (row, side, messages.parse()) {
+        (Some(row), "plain", Ok(messages)) => drop(run(&PLAIN, row, messages)),
+        (Some(row), "proved", Ok(messages)) => drop(run(&PROVED, row, messages)),
+        _ => return usage(),
+    }
+    ExitCode::SUCCESS
+}
+
+fn measure(row: &Row) {
+    let mut messages = 100;
+    while run(&PLAIN, row, messages)
+        .0
+        .max(run(&PROVED, row, messages).0)
+        < BATCH
+    {
+        messages *= 2;
+    }
+    let mut speeds = [Vec::new(), Vec::new()];
+    let mut ratios = Vec::new();
+    for _ in 0..REPEATS {
+        let (plain_time, plain_sum) = run(&PLAIN, row, messages);
+        let (proved_time, proved_sum) = run(&PROVED, row, messages);
+        assert_eq!(plain_sum, proved_sum, "{}: the sides differ", row.name);
+        let times = [plain_time, proved_time].map(|time| time.as_secs_f64());
+        for (speeds, time) in speeds.iter_mut().zip(times) {
+            speeds.push(messages as f64 / time);
+        }
+        ratios.push(times[0] / times[1]);
+    }
+    let [plain, proved] = speeds.map(|speeds| Spread::of(speeds).median);
+    let name = row.name;
+    println!("{name}|{plain:.0}|{proved:.0}|{}", Spread::of(ratios));
+}
+
+/// The time that a side takes, and a sum over what it answered.
+fn run(side: &Side, row: &Row, messages: usize) -> (Duration, u64) {
+    let mut lent = Lent::new(row);
+    let mut sum = 0;
+    let start = Clock::start();
+    for _ in 0..messages {
+        sum += lent.ask(side, &row.work);
+    }
+    (start.elapsed(), sum)
+}
+
+/// What a side is lent in a run.
+struct Lent {
+    ram: Vec<u16>,
+    settings: [u16; SETTINGS_WORDS],
+    reply: [u16; REPLY_WORDS],
+    remembered: [u16; REMEMBERED_WORDS],
+    answer: [u16; ANSWER_WORDS],
+    value: [u16; VALUE_WORDS],
+    bytes: [u8; RECORD_BYTES],
+}
+
+impl Lent {
+    fn new(row: &Row) -> Lent {
+        Lent {
+            ram: row.ram.clone(),
+            settings: settings_words(&row.settings),
+            reply: [0; REPLY_WORDS],
+            remembered: [0; REMEMBERED_WORDS],
+            answer: [0; ANSWER_WORDS],
+            value: [0; VALUE_WORDS],
+            bytes: [0; RECORD_BYTES],
+        }
+    }
+
+    /// Asks a side once; returns a sum over what it answered.
+    #[inline(always)]
+    fn ask(&mut self, side: &Side, work: &Work) -> u64 {
+        let Lent {
+            ram,
+            settings,
+            reply,
+            remembered,
+            answer,
+            value,
+            bytes,
+        } = self;
+        let (number, last) = match work {
+            Work::Bytes(bytes) => {
+                (side.message)(ram, reply, settings, remembered, bytes, answer);
+                (answer[0].into(), answer[8])
+            }
+            Work::Value(value) => {
+                (side.message_value)(ram, reply, settings, remembered, value, answer);
+                (answer[0].into(), answer[8])
+            }
+            Work::Area => ((side.check_area)(ram, settings), 0),
+            Work::Read(bytes) => ((side.read)(bytes, value).into(), value[35]),
+            Work::Write(value) => ((side.write)(value, bytes).into(), bytes[79].into()),
+        };
+        u64::from(number) + u64::from(last)
+    }
+}

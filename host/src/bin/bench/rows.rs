@@ -1,0 +1,161 @@
+//! The rows of the table: what is measured.
+
+use plain_terminal::terminal::boundary::{value_words, VALUE_WORDS};
+use plain_terminal::terminal::cells::RAM_WORDS;
+use plain_terminal::terminal::records::RECORD_BYTES;
+use plain_terminal::terminal::{write_record, Record, Settings};
+
+/// An image, settings, and one piece of work again and again.
+pub struct Row {
+    pub name: &'static str,
+    pub ram: Vec<u16>,
+    pub settings: Settings,
+    pub work: Work,
+}
+
+pub enum Work {
+    Bytes(Vec<u8>),
+    Value([u16; VALUE_WORDS]),
+    Area,
+    Read(Vec<u8>),
+    Write([u16; VALUE_WORDS]),
+}
+
+/// Words of RAM that are not zero.
+type Image = [(usize, u16)];
+
+// Subaddress 3, to receive and to transmit.
+const SINGLE: &Image = &[(0x0143, 0x0400), (0x0163, 0x0500)];
+const DOUBLE: &Image = &[(0x0143, 0x0400), (0x01A3, 0x8000)];
+const CIRCLE: &Image = &[(0x0143, 0x0400), (0x0163, 0x0500), (0x01A3, 0x2520)];
+const CIRCLE_AT_END: &Image = &[(0x0143, 0x0470), (0x01A3, 0x0120)];
+const ILLEGAL: &Image = &[(0x0143, 0x0400), (0x0163, 0x0500), (0x0386, 1)];
+const BUSY: &Image = &[(0x0143, 0x0400), (0x0163, 0x0500), (0x0246, 8)];
+
+pub fn rows() -> Vec<Row> {
+    let mut rows = Vec::from(receiving());
+    rows.extend(transmitting());
+    rows.extend(held_back());
+    rows.extend(refused());
+    rows.extend(others());
+    rows
+}
+
+fn receiving() -> [Row; 9] {
+    [
+        row("receive 1 word, single", SINGLE, bytes(0x2861, 1)),
+        row("receive 1 word, double", DOUBLE, bytes(0x2861, 1)),
+        row("receive 1 word, circular", CIRCLE, bytes(0x2861, 1)),
+        row("receive 32 words, single", SINGLE, bytes(0x2860, 32)),
+        row("receive 32 words, double", DOUBLE, bytes(0x2860, 32)),
+        row("receive 32 words, circular", CIRCLE, bytes(0x2860, 32)),
+        row(
+            "receive 31 of 32 words, circular, over its end",
+            CIRCLE_AT_END,
+            bytes(0x2860, 31),
+        ),
+        row(
+            "receive 32 words, single, from a value",
+            SINGLE,
+            Work::Value(value_words(&heard(0x2860, 32))),
+        ),
+        row("broadcast 32 words, single", SINGLE, bytes(0xF860, 32)),
+    ]
+}
+
+fn transmitting() -> [Row; 4] {
+    [
+        row("transmit 1 word, single", SINGLE, bytes(0x2C61, 0)),
+        row("transmit 1 word, circular", CIRCLE, bytes(0x2C61, 0)),
+        row("transmit 32 words, single", SINGLE, bytes(0x2C60, 0)),
+        row("transmit 32 words, circular", CIRCLE, bytes(0x2C60, 0)),
+    ]
+}
+
+fn held_back() -> [Row; 2] {
+    let withheld = Settings {
+        illegal_receive_disable: true,
+        ..Settings::TRACE
+    };
+    [
+        Row {
+            settings: withheld,
+            ..row("receive 32 words, withheld", ILLEGAL, bytes(0x2860, 32))
+        },
+        row("transmit 32 words, busy", BUSY, bytes(0x2C60, 0)),
+    ]
+}
+
+fn refused() -> [Row; 8] {
+    let unset = Settings {
+        address: 31,
+        ..Settings::TRACE
+    };
+    let mut damaged = record_bytes(0x2861, 1);
+    damaged[RECORD_BYTES - 1] = 1;
+    [
+        Row {
+            ram: vec![0; RAM_WORDS - 1],
+            ..row("refused with 1", SINGLE, bytes(0x2861, 1))
+        },
+        Row {
+            settings: unset,
+            ..row("refused with 3", SINGLE, bytes(0x2861, 1))
+        },
+        row("refused with 4", SINGLE, Work::Bytes(vec![0; 79])),
+        row("refused with 5", SINGLE, Work::Bytes(damaged)),
+        row("refused with 6", SINGLE, bytes(0x3061, 1)),
+        row("refused with 7", SINGLE, bytes(0x2801, 1)),
+        row("refused with 8", &[(0x0100, 0x0200)], bytes(0x2861, 1)),
+        row("refused with 9", &[(0x0143, 0x0300)], bytes(0x2861, 1)),
+    ]
+}
+
+fn others() -> [Row; 4] {
+    let mut sound_area: Vec<(usize, u16)> = (0x0140..0x01A0).map(|place| (place, 0x0400)).collect();
+    sound_area.extend([(0x0143, 0x047E), (0x01A3, 0x0120), (0x01A4, 0x8000)]);
+    let read = Work::Read(record_bytes(0x2860, 32));
+    let write = Work::Write(value_words(&heard(0x2860, 32)));
+    [
+        row("whole-area check, sound", &sound_area, Work::Area),
+        row("whole-area check, cell 1 unsound", &[], Work::Area),
+        row("read a record of 32 words", &[], read),
+        row("write a record of 32 words", &[], write),
+    ]
+}
+
+fn row(name: &'static str, image: &Image, work: Work) -> Row {
+    let mut ram = vec![0; RAM_WORDS];
+    for &(address, word) in image {
+        ram[address] = word;
+    }
+    Row {
+        name,
+        ram,
+        settings: Settings::TRACE,
+        work,
+    }
+}
+
+/// A message of a record with so many words heard.
+fn bytes(command: u16, count: u16) -> Work {
+    Work::Bytes(record_bytes(command, count))
+}
+
+fn record_bytes(command: u16, count: u16) -> Vec<u8> {
+    let bytes = write_record(&heard(command, count));
+    bytes.expect("the record keeps its layout").to_vec()
+}
+
+fn heard(command: u16, count: u16) -> Record {
+    let mut record = Record {
+        command,
+        tag: 0x0102,
+        count,
+        ..Record::default()
+    };
+    for (place, word) in record.words[..usize::from(count)].iter_mut().enumerate() {
+        *word = 0xA000 + place as u16;
+    }
+    record
+}
