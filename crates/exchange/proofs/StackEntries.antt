@@ -4,7 +4,7 @@ use Prim.Native.Nat.{ℕ, suc, _+_, _*_, _-_, _/_, _%_, _≤_, _<_}
 use native.Mathlib.Omega.{arith}
 use native.Mathlib.Nat.{mod-eq-of-lt, mod-eq-sub-mod, mod-self, mod-lt, mod-add-mod, div-add-mod, mul-comm, mul-assoc, mul-add-mod-self-left}
 use mathlib.Core.Path.{_≡_, sym, ap, _∙_}
-use mathlib.Core.Logic.{_⊎_, ⊎-elim}
+use mathlib.Core.Logic.{⊎-elim}
 use Rattle.words.proofs.Basics.{lt-or-ge}
 use Rattle.cells.proofs.Block.{WholeEntries, Offset, offset-of}
 

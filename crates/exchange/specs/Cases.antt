@@ -1,42 +1,26 @@
 -- Lists of messages with an exchange, to be computed: two that demand 3 speaks of, and one for each condition of it that fails.
 use Prim.Native.Nat.{ℕ, _-_}
-use mathlib.Core.Bool.{Bool, true, false}
+use mathlib.Core.Bool.{Bool, true}
 use mathlib.Core.List.{List, [], _∷_, _++_, map}
 use lib.ListN.{length, getD, replicate}
 use Rattle.records.specs.declared.value.Record.{Record}
-use Rattle.words.specs.declared.settings.Area.the-variants.{A}
 use Rattle.words.specs.declared.settings.Settings.{Settings}
 use Rattle.words.specs.declared.settings.Remembered.{Remembered}
 use Rattle.words.specs.Settings.{nothingRemembered}
 use Rattle.carry.specs.Writes.{Write, applyWrites}
 use Rattle.message.specs.Run.{State, run, Effect, effects}
+use Rattle.message.specs.Edges.{put, terminal}
 use Rattle.exchange.specs.Order.{exchangeAll}
 use Rattle.exchange.specs.After.{keptAfter, stackAfter, rememberedAfter}
 use Rattle.exchange.specs.Exchanged.{asked}
 
 -- RT 5, area A, stack 256, overwrite-invalid on and the rest off, as in the trace program
 unfoldable pub bench : Settings
-bench =
-    record {
-      address = 5;
-      area = A;
-      «stack_size» = 256;
-      «overwrite_invalid» = true;
-      «separate_broadcast» = false;
-      «illegal_receive_disable» = false;
-      «busy_receive_disable» = false;
-      «busy_always» = false;
-      «service_request» = false;
-      «subsystem_flag» = false;
-      «terminal_flag» = false;
-    }
+bench = terminal true
 
 -- every receive and transmit pointer is 0400, all else 0; the whole-area check passes
 unfoldable pub plainRam : List ℕ
 plainRam = replicate 0x140 0 ++ (replicate 64 0x400 ++ replicate (4096 - 0x180) 0)
-
-abbrev pub put : ℕ → ℕ → Write
-put at word = record { at = at; word = word }
 
 -- a message without faults flagged: command, time tag, words seen
 abbrev pub heard : ℕ → ℕ → List ℕ → Record

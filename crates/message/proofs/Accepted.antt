@@ -1,8 +1,8 @@
 -- A message that no case refuses is ready to be carried out: every sum of addresses that its plan makes fits.
-use Prim.Native.Nat.{ℕ, _≤_}
+use Prim.Native.Nat.{ℕ}
 use native.Mathlib.Omega.{arith}
 use mathlib.Core.Path.{_≡_}
-use mathlib.Core.Bool.{Bool, true, false, not}
+use mathlib.Core.Bool.{Bool}
 use mathlib.Core.List.{List}
 use lib.ListN.{length}
 use Rattle.words.specs.declared.settings.Settings.{Settings}

@@ -14,12 +14,12 @@ use Rattle.words.proofs.Basics.{yes-or-no}
 use Rattle.memory.specs.Map.{lookupPlace, stackPointerPlace}
 use Rattle.windows.specs.Window.{placeOf}
 use Rattle.memory.specs.Kind.{kindOf}
-use Rattle.cells.specs.Cell.{cellAt}
+use Rattle.cells.specs.Cell.{cellAt, cellWindow}
 use Rattle.cells.specs.Stack.{stackPointer, stackWindow}
-use Rattle.windows.proofs.Wrap.{place-from, place-below}
+use Rattle.windows.proofs.Wrap.{place-from, place-below, places-differ}
 use Rattle.windows.proofs.Meets.{Outside}
-use Rattle.cells.proofs.Sizes.{Sized, cell-sized, window-nonempty}
-use Rattle.cells.proofs.Sound.{sound-address}
+use Rattle.cells.proofs.Sizes.{Sized, cell-sized, window-room, window-nonempty}
+use Rattle.cells.proofs.Sound.{sound-address, sound-place}
 use Rattle.cells.proofs.Block.{stack-word-from, stack-word-below, stack-address, tables-off, illegal-off}
 use Rattle.memory.proofs.Numbers.{number-below}
 use Rattle.memory.proofs.Places.{lookup-between, stack-pointer-between, lookup-not-stack-pointer, ordinary-not-lookup, ordinary-not-stack-pointer}
@@ -27,6 +27,7 @@ use Rattle.decide.specs.declared.plan.Deed.{Deed}
 use Rattle.arrival.specs.Target.{cellFor, targetOf}
 use Rattle.deed.specs.Deed.{wordsStored, actWith, actOf, motionWith, motionOf}
 use Rattle.decide.specs.Plan.{deedOf, entryOf, planOf}
+use Rattle.decide.proofs.Reach.{plan-stored}
 use Rattle.carry.specs.Writes.{applyWrites, writesTo, dataWrites, pointerWrites, descriptorOf, entryWrites, stackPointerWrites, deedWrites, stackWrites, writesOf}
 use Rattle.carry.proofs.Writes.{apply-append, length-apply}
 use Rattle.carry.proofs.Footprint.{Avoids, untouched, avoids-append, avoids-places, written}
@@ -232,6 +233,29 @@ module _ (ram : List ℕ) (s : Settings) (v : Record) where
         (untouched a words ram (data-avoids a (inr (tables-outside a (omega arith) (omega arith))))
         ∙ sym (stays kept ∙ pointer-read)))
         (yes-or-no (d .motion .moves))
+
+    -- "from the lookup pointer on, at rising addresses, wrapping": each word stored stands at its place of the window
+    pub stored-stands :
+        (k : ℕ) →
+        k < deedFor ram s v .act .stored →
+        getD (afterMessage ram s v) (placeOf (targetOf ram s (v .command) .window) k) 0 ≡ getD (v .words) k 0
+    unfolding deedWrites deedOf planOf targetOf
+    stored-stands k h =
+        let d = deedFor ram s v in
+        let c = cellFor ram s (v .command) in
+        let w = cellWindow c in
+        let a = placeOf w k in
+        let o = sound-place (length ram) (stackWindow ram s) c (f .cell) target-sized k in
+        let room = window-room (c .scheme) (c .pointer) target-sized in
+        let few = plan-stored ram s v in
+        let words = dataWrites w (v .words) (d .act .stored) in
+        beyond-stack a (o .stack) (λ q. ordinary-not-stack-pointer (length ram) a (o .ordinary) (s .area) (sym q))
+        ∙ rw (apply-append words (pointerWrites s d) ram)
+        (untouched a (pointerWrites s d) (applyWrites words ram)
+        (lookup-avoids a
+        (λ q. ordinary-not-lookup (length ram) a (o .ordinary) (s .area) (targetOf ram s (v .command) .number) cell-low (sym q)))
+        ∙ written (placeOf w) (λ i. getD (v .words) i 0) (d .act .stored) k ram h (o .ordinary .inside)
+        (λ j l b. places-differ w k j l (omega arith)))
 
     -- no word of the window lies in the stack's block
     block-outside :

@@ -70,11 +70,11 @@ runCase c =
 
 -- ---- the cases
 
-abbrev put : ℕ → ℕ → Write
+abbrev pub put : ℕ → ℕ → Write
 put at word = record { at = at; word = word }
 
 -- "RT 5, SA 3"; overwrite-invalid as told, the rest off
-abbrev terminal : Bool → Settings
+abbrev pub terminal : Bool → Settings
 terminal overwrite =
     record {
       address = 5;

@@ -1,6 +1,6 @@
 -- The tests of each entry point, in the table's order. "An entry point tests exactly those about things that it is given."
 use Prim.Native.Nat.{ℕ}
-use mathlib.Core.Bool.{Bool, not}
+use mathlib.Core.Bool.{not}
 use mathlib.Core.List.{List, [], _∷_, _++_}
 use lib.ListN.{length}
 use Rattle.records.specs.declared.value.Record.{Record}

@@ -1,5 +1,4 @@
 // The program's lines into a lent buffer. Each function answers the place after what it puts there.
-ghost use mathlib.Core.Path.{_≡_};
 ghost use Prim.Native.Nat.{_+_, _≤_, _^_};
 ghost use lib.ListN.{length};
 ghost use Rattle.text.specs.Text.{Put, hexText, decimalText, newline};

@@ -1,15 +1,13 @@
 -- Walking a trace in parts: first a whole number of records, then the rest.
-use Prim.Native.Nat.{ℕ, zero, suc, _+_, _-_, _*_, _/_, _%_, _≤_}
+use Prim.Native.Nat.{ℕ, zero, suc, _+_, _*_, _/_, _%_, _≤_}
 use native.Mathlib.Nat.{add-zero, add-suc, mul-add-div}
 use native.Mathlib.Omega.{arith}
-use mathlib.Core.Path.{_≡_, refl, ap, sym, _∙_}
-use mathlib.Core.List.{List, [], _++_, append-nil, append-assoc}
-use lib.ListN.{length, take, drop, length-append, length-drop}
+use mathlib.Core.Path.{_≡_, refl, ap, _∙_}
+use mathlib.Core.List.{List, _++_, append-nil, append-assoc}
+use lib.ListN.{length, drop, length-append, length-drop}
 use lib.Seq.{take-append-le, drop-append-le, drop-append-add}
 use Rattle.words.specs.declared.settings.Settings.{Settings}
-use Rattle.message.specs.Run.{stepBytes}
-use Rattle.text.specs.Line.{lineOf}
-use Rattle.trace.specs.Walk.{Walk, recordAt, nextNumber, answerTo, wholeRecords, walkRecord, walkTo, walkAll, anew}
+use Rattle.trace.specs.Walk.{Walk, recordAt, wholeRecords, walkRecord, walkTo, walkAll, anew}
 
 -- a record that ends in the first part
 record-first : (xs ys : List ℕ) (n : ℕ) → 80 * suc n ≤ length xs → recordAt (xs ++ ys) n ≡ recordAt xs n

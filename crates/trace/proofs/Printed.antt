@@ -1,13 +1,10 @@
 -- The program's whole output, and how it is printed part by part.
-use Prim.Native.Nat.{ℕ, _+_, _*_, _/_, _%_, _<_, _≤_}
-use native.Mathlib.Nat.{zero-add}
+use Prim.Native.Nat.{ℕ, _+_, _/_, _%_, _<_, _≤_}
 use native.Mathlib.Omega.{arith}
 use mathlib.Core.Path.{_≡_, refl}
-use mathlib.Core.Bool.{cond}
 use mathlib.Core.List.{List, [], _∷_, _++_, append-assoc}
 use lib.ListN.{length, take, drop, replicate, length-append}
 use lib.Seq.{sets, sets-eq, take-at, drop-at}
-use lib.Dec.{ltb}
 use borrow.Author.Tests.{lt-ltb, le-ltb}
 use Rattle.words.specs.declared.settings.Settings.{Settings}
 use Rattle.words.specs.declared.settings.Remembered.{Remembered}
@@ -15,7 +12,7 @@ use Rattle.words.specs.Settings.{nothingRemembered}
 use Rattle.trace.specs.declared.walk.Walked.{Walked}
 use Rattle.text.specs.Line.{imageLine, namedLine}
 use Rattle.trace.specs.Walk.{Walk, walkAll, walkStart, walkedOf, anew}
-use Rattle.trace.specs.Output.{programSettings, imageRam, lastLines, traceText, programOutput, written, refilled, WholeRefills}
+use Rattle.trace.specs.Output.{programSettings, imageRam, lastLines, textToEnd, traceText, programOutput, written, refilled, WholeRefills}
 use Rattle.text.proofs.Numerals.{decimal-most}
 use Rattle.text.proofs.Lines.{tail-most, end-most}
 use Rattle.trace.proofs.Walks.{text-most}
@@ -49,10 +46,8 @@ refill-more s xs ys w h = rw (walk-append s xs ys (anew w) h) (all-anew s ys (wa
 written-whole :
     (fulls : List (List ℕ)) (rest : List ℕ) (w : Walk) →
     WholeRefills fulls →
-    written fulls rest w
-    ≡ walkAll programSettings (refilled fulls rest) (anew w) .text
-    ++ lastLines (length (refilled fulls rest) % 80) (walkAll programSettings (refilled fulls rest) (anew w) .number)
-unfolding written refilled WholeRefills
+    written fulls rest w ≡ textToEnd (refilled fulls rest) (anew w)
+unfolding textToEnd written refilled WholeRefills
 written-whole [] rest w h = refl
 written-whole (full ∷ fulls) rest w h =
     let e : (length full + length (refilled fulls rest)) % 80 ≡ length (refilled fulls rest) % 80 = omega (arith, h .0) in

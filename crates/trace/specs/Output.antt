@@ -43,10 +43,13 @@ unfoldable pub lastLines : ℕ → ℕ → List ℕ
 lastLines tail number = tailLine tail ++ endLine number
 
 -- the lines of all whole records, and the last lines
+-- from a walk on to the end of the trace: a line for each whole record, and the last lines
+unfoldable pub textToEnd : List ℕ → Walk → List ℕ
+textToEnd trace w =
+    walkAll programSettings trace w .text ++ lastLines (length trace % 80) (walkAll programSettings trace w .number)
+
 unfoldable pub traceText : List ℕ → List ℕ → List ℕ
-traceText ram trace =
-    walkAll programSettings trace (walkStart ram (replicate 33 0) nothingRemembered 0) .text
-    ++ lastLines (length trace % 80) (walkAll programSettings trace (walkStart ram (replicate 33 0) nothingRemembered 0) .number)
+traceText ram trace = textToEnd trace (walkStart ram (replicate 33 0) nothingRemembered 0)
 
 -- "An image under 8,192 bytes prints "image" and its length, and nothing else."
 unfoldable pub programOutput : List ℕ → List ℕ
@@ -56,9 +59,7 @@ programOutput input =
 -- what a program writes that refills a buffer, a whole number of records each time, until the input ends with a shorter rest:
 -- each refill's lines, and after the rest the last lines
 unfoldable pub written : List (List ℕ) → List ℕ → Walk → List ℕ
-written [] rest w =
-    walkAll programSettings rest (anew w) .text
-    ++ lastLines (length rest % 80) (walkAll programSettings rest (anew w) .number)
+written [] rest w = textToEnd rest (anew w)
 written (full ∷ fulls) rest w =
     walkAll programSettings full (anew w) .text ++ written fulls rest (walkAll programSettings full (anew w))
 

@@ -1,5 +1,5 @@
 -- `put_digits` meets its contract. The loop's invariant: with the `i` digits that are left, all would stand in the buffer.
-use Prim.Native.Nat.{_≤_, _-_}
+use Prim.Native.Nat.{_≤_}
 use native.Mathlib.Omega.{arith}
 use mathlib.Core.Path.{_≡_, refl, _∙_}
 use lib.ListN.{length}
