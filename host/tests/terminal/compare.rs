@@ -59,9 +59,21 @@ fn errors_have_names() {
     assert!(Planted::named("none").is_err());
 }
 
+/// Each text is wrong, and the message says where and how.
+fn assert_errors(cases: &[(&str, &str)]) {
+    for (text, expected) in cases {
+        let error = read_case(text).unwrap_err().to_string();
+        assert!(error.starts_with(expected), "{error}");
+    }
+}
+
 #[test]
 fn errors_in_a_case_name_the_line() {
-    for (text, expected) in [
+    const LOUD: &str = "settings address 5 area A stack 256 loud";
+    const LENT: &str = "line 1: found \"9999\", expected words of RAM, decimal, 0 to 4160";
+    const TAG: &str = "line 1: found the end of the line, expected a time tag of";
+    const WORDS: &str = "line 3: found words without a word, expected";
+    assert_errors(&[
         (
             "ram 0 1\nvalu 1\n",
             "line 2: found \"valu\", expected settings, lent,",
@@ -74,28 +86,23 @@ fn errors_in_a_case_name_the_line() {
             "settings address 5 area C",
             "line 1: found \"C\", expected A or B",
         ),
-        (
-            "settings address 5 area A stack 256 loud",
-            "line 1: found \"loud\", expected the name",
-        ),
-        (
-            "lent ram 9999 reply 33",
-            "line 1: found \"9999\", expected words of RAM, decimal, 0 to 4160",
-        ),
-        (
-            "value 2861 tag",
-            "line 1: found the end of the line, expected a time tag of",
-        ),
-        ("bytes 28 x", "line 1: found \"x\", expected pairs of"),
+        (LOUD, "line 1: found \"loud\", expected the name"),
+        ("lent ram 9999 reply 33", LENT),
+        ("value 2861 tag", TAG),
         ("value +1F", "line 1: found \"+1F\", expected a command of"),
+        ("bytes 28 x", "line 1: found \"x\", expected pairs of"),
         (
             "remembered 1 2 3",
             "line 1: found \"3\", expected the end of the line",
         ),
-        (
-            "\n\nmessage 2861 words",
-            "line 3: found words without a word, expected",
-        ),
+        ("\n\nmessage 2861 words", WORDS),
+    ]);
+}
+
+#[test]
+fn a_case_has_each_line_once_and_one_message() {
+    const VALUE: &str = "value 2861 tag 0 flags 0 count 0 words\nraw 28";
+    assert_errors(&[
         (
             "lent ram 1 reply 1\n\nlent ram 1 reply 1",
             "line 3: found a second lent line",
@@ -108,14 +115,8 @@ fn errors_in_a_case_name_the_line() {
             "message 2861\nbytes 28",
             "line 2: found a second message, expected one",
         ),
-        (
-            "value 2861 tag 0 flags 0 count 0 words\nraw 28",
-            "line 2: found a second message",
-        ),
-    ] {
-        let error = read_case(text).unwrap_err().to_string();
-        assert!(error.starts_with(expected), "{error}");
-    }
+        (VALUE, "line 2: found a second message, expected one"),
+    ]);
 }
 
 /// What a trace prints shows three of the errors.

@@ -12,6 +12,7 @@ mod planted;
 mod programs;
 mod records;
 mod refusals;
+mod rules;
 mod samples;
 mod spread;
 mod text;

@@ -18,6 +18,9 @@ message 3064 bus A tag 0002 words 1111 2222 3333 4444
 message 2C62 bus A tag 0003
 ";
 
+/// Both flags that are faults.
+const BOTH: u16 = FLAG_WRONG_SYNC | FLAG_INVALID_WORD;
+
 fn packed(text: &str) -> Vec<u8> {
     pack(text.as_bytes()).unwrap_or_else(|error| panic!("{error}"))
 }
@@ -87,48 +90,35 @@ ram 0410 1000 1000
 #[test]
 fn message_lines() {
     let words = [0x1111, 0x0022];
-    for (line, record) in [
-        ("message 2864", Record::default()),
-        ("message 2864 tag 12", record(0, &[])),
-        ("message 2864 words 1111 22", record(0, &words)),
+    // The tag, flags, count and words that the parts of a line stand for.
+    for (parts, tag, flags, count, words) in [
+        ("", 0, 0, 0, &[][..]),
+        ("tag 12", 0x0012, 0, 0, &[]),
+        ("words 1111 22", 0, 0, 2, &words),
         (
-            "message 2864 bus B flags sync words 1111 22",
-            Record {
-                flags: FLAG_BUS_B | FLAG_WRONG_SYNC,
-                ..record(0, &words)
-            },
+            "bus B flags sync words 1111 22",
+            0,
+            FLAG_BUS_B | FLAG_WRONG_SYNC,
+            2,
+            &words,
         ),
-        (
-            "message 2864 words 1111 22 flags invalid sync",
-            Record {
-                flags: FLAG_INVALID_WORD | FLAG_WRONG_SYNC,
-                ..record(0, &words)
-            },
-        ),
-        (
-            "message 2864 count 5 words 1111 22",
-            Record {
-                count: 5,
-                ..record(0, &words)
-            },
-        ),
-        ("message 2864 words 1111 22 0 0 count 2", record(0, &words)),
-        (
-            "message 2864 count 33",
-            Record {
-                count: 33,
-                ..Record::default()
-            },
-        ),
+        ("words 1111 22 flags invalid sync", 0, BOTH, 2, &words),
+        ("count 5 words 1111 22", 0, 0, 5, &words),
+        ("words 1111 22 0 0 count 2", 0, 0, 2, &words),
+        ("count 33", 0, 0, 33, &[]),
     ] {
-        let tag = if line.contains("tag") { 0x0012 } else { 0 };
         let expected = Record {
-            command: 0x2864,
             tag,
-            ..record
+            flags,
+            count,
+            ..record(0x2864, words)
         };
         let bytes = write_record(&expected).unwrap();
-        assert_eq!(packed_record(line), bytes, "{line}");
+        assert_eq!(
+            packed_record(&format!("message 2864 {parts}")),
+            bytes,
+            "{parts}"
+        );
     }
 }
 
@@ -138,9 +128,8 @@ fn unpacked_messages() {
         let bytes = write_record(record).unwrap();
         unpack(&[&[0; 8192], &bytes[..]].concat())
     };
-    let both = FLAG_WRONG_SYNC | FLAG_INVALID_WORD;
     assert_eq!(
-        unpacked(&heard(0x2864, 1, both | FLAG_BUS_B)),
+        unpacked(&heard(0x2864, 1, BOTH | FLAG_BUS_B)),
         "message 2864 bus B tag 7A60 flags sync invalid words A000\n"
     );
     assert_eq!(
@@ -193,137 +182,159 @@ fn errors_name_the_line() {
     assert_eq!(not_text.found, "bytes that are not text");
 }
 
-#[test]
-fn errors_say_what_was_found_and_expected() {
-    let raw_81 = format!("raw {}", "00".repeat(81));
-    let words_33 = format!("message 2860 words{}", " 1".repeat(33));
-    for (text, message) in [
-        ("ram", "found the end of the line, expected an address"),
-        ("ram 0143", "found the end of the line, expected a RAM word"),
-        (
-            "ram 143 047E0",
-            "found \"047E0\", expected a RAM word of 1 to 4",
-        ),
-        ("ram 0143 +12", "found \"+12\", expected a RAM word"),
-        ("ram 0x143 1", "found \"0x143\", expected an address"),
-        (
-            "ram 1000 1",
-            "found address 1000, expected an address up to 0FFF",
-        ),
-        ("ram 0FFF 1 2", "found address 1000"),
-        (
-            "message",
-            "found the end of the line, expected a command word",
-        ),
-        ("message 28G4", "found \"28G4\", expected a command word"),
-        (
-            "message 2864 1111",
-            "found \"1111\", expected bus, tag, flags, count or words",
-        ),
-        ("message 2864 bus C", "found \"C\", expected bus A or B"),
-        (
-            "message 2864 bus",
-            "found the end of the line, expected bus A or B",
-        ),
-        (
-            "message 2864 tag",
-            "found the end of the line, expected a time tag",
-        ),
-        (
-            "message 2864 tag 1 tag 2",
-            "found tag a second time, expected each part once",
-        ),
-        (
-            "message 2864 flags",
-            "found flags without a name, expected sync or invalid",
-        ),
-        (
-            "message 2864 flags snyc",
-            "found \"snyc\", expected sync or invalid",
-        ),
-        (
-            "message 2864 count 34",
-            "found \"34\", expected a count, decimal, 0 to 33",
-        ),
-        ("message 2864 count -1", "found \"-1\", expected a count"),
-        (
-            "message 2864 count",
-            "found the end of the line, expected a count",
-        ),
-        (
-            "message 2864 words",
-            "found words without a word, expected 1 to 32 data words",
-        ),
-        (
-            "message 2864 words xyz",
-            "found \"xyz\", expected a data word",
-        ),
-        (&words_33, "found more than 32 words, expected at most 32"),
-        (
-            "message 2864 count 1 words 1 2",
-            "found other words than 0000 after the first 1, expected a larger count",
-        ),
-        ("raw", "found 0 bytes, expected 1 to 80 bytes"),
-        (&raw_81, "found 81 bytes, expected 1 to 80 bytes"),
-        ("raw 1", "found \"1\", expected pairs of hexadecimal digits"),
-        (
-            "raw 0g",
-            "found \"0g\", expected pairs of hexadecimal digits",
-        ),
-        (
-            "image",
-            "found the end of the line, expected the image's length in bytes",
-        ),
-        (
-            "image 8192",
-            "found \"8192\", expected the image's length in bytes, decimal, 0 to 8191",
-        ),
-        ("image 1F", "found \"1F\", expected the image's length"),
-        ("image 10 10", "found \"10\", expected the end of the line"),
-    ] {
+/// Each text is wrong in this line, and the message says how.
+fn assert_errors(line: usize, cases: &[(&str, &str)]) {
+    for (text, message) in cases {
         let found = error(text);
-        let expected = format!("line 1: {message}");
+        let expected = format!("line {line}: {message}");
         assert!(found.starts_with(&expected), "{text}: {found}");
     }
 }
 
 #[test]
+fn errors_in_ram_lines() {
+    assert_errors(
+        1,
+        &[
+            (
+                "ram",
+                "found the end of the line, expected an address of 1 to 4",
+            ),
+            ("ram 0143", "found the end of the line, expected a RAM word"),
+            (
+                "ram 143 047E0",
+                "found \"047E0\", expected a RAM word of 1 to 4",
+            ),
+            ("ram 0143 +12", "found \"+12\", expected a RAM word"),
+            ("ram 0x143 1", "found \"0x143\", expected an address"),
+            (
+                "ram 1000 1",
+                "found address 1000, expected an address up to 0FFF",
+            ),
+            ("ram 0FFF 1 2", "found address 1000"),
+        ],
+    );
+}
+
+#[test]
+fn errors_in_message_lines() {
+    const PARTS: &str = "found \"1111\", expected bus, tag, flags, count or words";
+    const TWICE: &str = "found tag a second time, expected each part once";
+    const NO_FLAG: &str = "found flags without a name, expected sync or invalid";
+    const COUNT: &str = "found \"34\", expected a count, decimal, 0 to 33";
+    assert_errors(
+        1,
+        &[
+            (
+                "message",
+                "found the end of the line, expected a command word",
+            ),
+            ("message 28G4", "found \"28G4\", expected a command word"),
+            ("message 2864 1111", PARTS),
+            ("message 2864 bus C", "found \"C\", expected bus A or B"),
+            (
+                "message 2864 bus",
+                "found the end of the line, expected bus A or B",
+            ),
+            (
+                "message 2864 tag",
+                "found the end of the line, expected a time tag",
+            ),
+            ("message 2864 tag 1 tag 2", TWICE),
+            ("message 2864 flags", NO_FLAG),
+            (
+                "message 2864 flags snyc",
+                "found \"snyc\", expected sync or invalid",
+            ),
+            ("message 2864 count 34", COUNT),
+            ("message 2864 count -1", "found \"-1\", expected a count"),
+            (
+                "message 2864 count",
+                "found the end of the line, expected a count",
+            ),
+        ],
+    );
+}
+
+#[test]
+fn errors_in_data_words() {
+    let words_33 = format!("message 2860 words{}", " 1".repeat(33));
+    const NO_WORD: &str = "found words without a word, expected 1 to 32 data words";
+    const TOO_FEW: &str = "found other words than 0000 after the first 1, expected a larger count";
+    assert_errors(
+        1,
+        &[
+            ("message 2864 words", NO_WORD),
+            (
+                "message 2864 words xyz",
+                "found \"xyz\", expected a data word",
+            ),
+            (&words_33, "found more than 32 words, expected at most 32"),
+            ("message 2864 count 1 words 1 2", TOO_FEW),
+        ],
+    );
+}
+
+#[test]
+fn errors_in_raw_and_image_lines() {
+    let raw_81 = format!("raw {}", "00".repeat(81));
+    const LENGTH: &str = "found the end of the line, expected the image's length in bytes";
+    const LARGEST: &str =
+        "found \"8192\", expected the image's length in bytes, decimal, 0 to 8191";
+    assert_errors(
+        1,
+        &[
+            ("raw", "found 0 bytes, expected 1 to 80 bytes"),
+            (&raw_81, "found 81 bytes, expected 1 to 80 bytes"),
+            ("raw 1", "found \"1\", expected pairs of hexadecimal digits"),
+            (
+                "raw 0g",
+                "found \"0g\", expected pairs of hexadecimal digits",
+            ),
+            ("image", LENGTH),
+            ("image 8192", LARGEST),
+            ("image 1F", "found \"1F\", expected the image's length"),
+            ("image 10 10", "found \"10\", expected the end of the line"),
+        ],
+    );
+}
+
+#[test]
 fn errors_of_order() {
-    for (text, message) in [
-        ("ram 0 1\nimage 10", "found image after another line"),
-        ("image 10\nimage 10", "found image after another line"),
-        ("message 2864\nram 0 1", "found ram after a record"),
-        ("raw 00\nram 0 1", "found ram after a record"),
-        (
-            "raw 00\nmessage 2864",
-            "found message, expected nothing after a raw line",
-        ),
-        (
-            "raw 00\nraw 00",
-            "found raw, expected nothing after a raw line",
-        ),
-        (
-            "image 10\nmessage 2864",
-            "found message, expected no records",
-        ),
-        ("image 10\nraw 00", "found raw, expected no records"),
-        (
-            "image 10\nram 5 0",
-            "found word 0000 at address 0005, expected no word beyond",
-        ),
-        (
-            "image 10\nram 6 0",
-            "found word 0000 at address 0006, expected no word beyond",
-        ),
-        (
-            "image 9\nram 4 1",
-            "found word 0001 at address 0004, expected no word beyond",
-        ),
-    ] {
-        let found = error(text);
-        let expected = format!("line 2: {message}");
-        assert!(found.starts_with(&expected), "{text}: {found}");
-    }
+    assert_errors(
+        2,
+        &[
+            ("ram 0 1\nimage 10", "found image after another line"),
+            ("image 10\nimage 10", "found image after another line"),
+            ("message 2864\nram 0 1", "found ram after a record"),
+            ("raw 00\nram 0 1", "found ram after a record"),
+            (
+                "raw 00\nmessage 2864",
+                "found message, expected nothing after a raw line",
+            ),
+            (
+                "raw 00\nraw 00",
+                "found raw, expected nothing after a raw line",
+            ),
+            (
+                "image 10\nmessage 2864",
+                "found message, expected no records",
+            ),
+            ("image 10\nraw 00", "found raw, expected no records"),
+            (
+                "image 10\nram 5 0",
+                "found word 0000 at address 0005, expected no word beyond",
+            ),
+            (
+                "image 10\nram 6 0",
+                "found word 0000 at address 0006, expected no word beyond",
+            ),
+            (
+                "image 9\nram 4 1",
+                "found word 0001 at address 0004, expected no word beyond",
+            ),
+        ],
+    );
 }
 
 #[test]
