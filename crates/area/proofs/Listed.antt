@@ -1,8 +1,8 @@
 -- Which cells the whole-area check reads, and that the cell of an accepted command is one of them.
-use Prim.Native.Nat.{ℕ, _+_, _*_, _%_, _≤_, _<_}
+use Prim.Native.Nat.{ℕ, _%_, _≤_, _<_}
 use native.Mathlib.Omega.{arith}
 use mathlib.Core.Path.{_≡_, refl}
-use mathlib.Core.Logic.{_⊎_, ⊎-elim}
+use mathlib.Core.Logic.{⊎-elim}
 use mathlib.Core.Bool.{Bool, true, false, cond, _&&_, _||_}
 use mathlib.Core.List.{List}
 use lib.Dec.{ltb, leb}
@@ -13,7 +13,7 @@ use Rattle.words.specs.Settings.{isBroadcast}
 use Rattle.words.proofs.Basics.{and-left, and-right, lt-or-ge, or-either, not-both}
 use Rattle.memory.specs.declared.kind.Kind.{Kind}
 use Rattle.memory.specs.declared.kind.Kind.the-variants.{Receive, Transmit, Broadcast}
-use Rattle.memory.specs.Kind.{cellNumber, kindNumbered, kindOf}
+use Rattle.memory.specs.Kind.{cellNumber, kindOf}
 use Rattle.memory.proofs.Numbers.{number-sub, number-kind, number-below}
 use Rattle.cells.specs.Cell.{cellAt}
 use Rattle.area.specs.Area.{isRead, cellNumbered}

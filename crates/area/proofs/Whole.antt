@@ -4,7 +4,7 @@ use Prim.Native.Nat.{ℕ, _≤_, _<_}
 use native.Mathlib.Nat.{eq-zero-or-pos}
 use native.Mathlib.Omega.{arith}
 use mathlib.Core.Path.{_≡_, refl}
-use mathlib.Core.Logic.{_⊎_, ⊎-elim}
+use mathlib.Core.Logic.{⊎-elim}
 use mathlib.Core.Bool.{Bool, true, false, not, cond}
 use mathlib.Core.List.{List}
 use lib.ListN.{length}
@@ -20,7 +20,7 @@ use Rattle.memory.specs.Kind.{kindOf, cellNumber}
 use Rattle.cells.specs.Cell.{cellAt, soundCell}
 use Rattle.cells.specs.Stack.{stackWindow, stackSound}
 use Rattle.area.proofs.Before.{firstFour}
-use Rattle.area.specs.Area.{isRead, cellNumbered, isUnsound, lowest, lowestUnsound, groundsWith, areaGrounds, areaRefusal, checkArea}
+use Rattle.area.specs.Area.{isRead, cellNumbered, isUnsound, lowestUnsound, groundsWith, areaGrounds, areaRefusal, checkArea}
 use Rattle.cells.proofs.Sound.{CellSound, sound-cell-facts, cell-facts-sound}
 use Rattle.cells.proofs.Block.{StackSound, stack-sound-facts, stack-facts-sound}
 use Rattle.area.proofs.Lowest.{Lowest, lowest-is}

@@ -1,7 +1,7 @@
 -- The whole-area check. "The whole-area check answers the first of 1, 3, 8, or 9 with the lowest unsound cell number among
 -- subaddresses 1-30; broadcast cells are read only if separate-broadcast is on."
 use Prim.Native.Nat.{ℕ, zero, suc, _%_}
-use mathlib.Core.Bool.{Bool, true, false, not, cond, _&&_, _||_}
+use mathlib.Core.Bool.{Bool, false, not, cond, _&&_, _||_}
 use mathlib.Core.List.{List}
 use lib.ListN.{length}
 use lib.Dec.{ltb, leb, eqb}

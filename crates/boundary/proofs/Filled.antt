@@ -5,7 +5,7 @@ use native.Mathlib.Omega.{arith}
 use mathlib.Core.Path.{_≡_, sym, _∙_}
 use mathlib.Core.Logic.{⊎-elim}
 use mathlib.Core.List.{List}
-use lib.ListN.{length, getD, set, getD-replicate, List·getD-eq-default}
+use lib.ListN.{length, getD, getD-replicate, List·getD-eq-default}
 use lib.Seq.{set-getD}
 use Rattle.words.proofs.Basics.{lt-or-ge}
 use Rattle.records.specs.Fill.{fillFrom, fill}

@@ -1,12 +1,12 @@
 -- The reply. "The reply goes to the front of a lent buffer; its other words keep their contents."
-use Prim.Native.Nat.{ℕ, zero, suc, _+_}
-use mathlib.Core.Bool.{Bool, cond}
+use Prim.Native.Nat.{ℕ, _+_}
+use mathlib.Core.Bool.{cond}
 use mathlib.Core.List.{List, [], _∷_, map}
 use lib.ListN.{getD}
 use Rattle.windows.specs.declared.window.Window.{Window}
 use Rattle.windows.specs.Window.{placeOf}
 use Rattle.decide.specs.declared.plan.Deed.{Deed}
-use Rattle.carry.specs.Writes.{Write, writesTo, applyWrites}
+use Rattle.carry.specs.Writes.{Write, writesTo}
 
 -- rule 4: the data words, "read the same way", from place 1 of the reply on
 abbrev pub sentWrites : List ℕ → Window → ℕ → List Write

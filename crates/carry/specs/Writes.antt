@@ -1,6 +1,6 @@
 -- The ordered list of writes of an accepted message. RAM afterwards is this list applied, and nothing else touches RAM.
 use Prim.Native.Nat.{ℕ, zero, suc, _+_}
-use mathlib.Core.Bool.{Bool, cond}
+use mathlib.Core.Bool.{cond}
 use mathlib.Core.List.{List, [], _∷_, _++_}
 use lib.ListN.{getD, set}
 use Rattle.records.specs.declared.value.Record.{Record}

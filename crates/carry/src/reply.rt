@@ -1,6 +1,5 @@
 // The reply: the status word and then the data words, at the front of the lent buffer.
 ghost use mathlib.Core.Path.{_≡_};
-ghost use Prim.Native.Nat.{_≤_};
 ghost use Rattle.carry.specs.Writes.{applyWrites};
 ghost use Rattle.carry.specs.Reply.{sentWrites, replyWrites};
 use decide::plan::Deed;

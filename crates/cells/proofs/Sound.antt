@@ -1,18 +1,20 @@
 -- What it tells that a cell is sound, as named facts and back again, and what follows for each place of its window.
-use Prim.Native.Nat.{ℕ, _+_, _-_, _%_, _≤_, _<_}
+use Prim.Native.Nat.{ℕ, _+_, _%_, _^_, _≤_, _<_}
 use native.Mathlib.Omega.{arith}
 use mathlib.Core.Path.{_≡_, refl}
+use mathlib.Core.Logic.{⊎-elim}
 use mathlib.Core.Bool.{true, false, not, _&&_, _||_}
 use lib.Dec.{ltb}
+use lib.Pow.{pow-mono}
 use borrow.Author.Tests.{ltb-true, leb-true, eqb-true, lt-ltb, le-leb, eq-eqb, not-true}
-use Rattle.words.proofs.Basics.{and-left, and-right, or-left, or-right, or-neither}
+use Rattle.words.proofs.Basics.{yes-or-no, and-left, and-right, or-left, or-right, or-neither}
 use Rattle.cells.specs.declared.cell.Scheme.{Scheme}
 use Rattle.cells.specs.declared.cell.Scheme.the-variants.{Single, Double, Circular}
 use Rattle.cells.specs.declared.cell.Cell.{Cell}
 use Rattle.windows.specs.declared.window.Window.{Window}
 use Rattle.windows.specs.Window.{placeOf, meets, meetsFixed, windowsMeet, fitsBelow}
-use Rattle.cells.specs.Cell.{doubleFits, cellWindow, soundCell}
-use Rattle.windows.proofs.Wrap.{place-from, place-below, SameRun}
+use Rattle.cells.specs.Cell.{sizeOf, doubleFits, windowOf, cellWindow, soundCell}
+use Rattle.windows.proofs.Wrap.{place-from, place-below, aligned-size, SameRun}
 use Rattle.windows.proofs.Meets.{nothing-shared}
 use Rattle.memory.proofs.Places.{OrdinaryAddress}
 use Rattle.cells.proofs.Sizes.{Sized, window-nonempty}
@@ -82,6 +84,23 @@ module _ (length : ℕ) (block : Window) (c : Cell) where
         off-fixed w (f .fixed),
         f .stack,
       )
+
+-- "So m = 6 and 7 are never sound here.": such a window would be all of RAM, and the fixed areas are in it
+pub never-sound :
+    (block : Window) (c : Cell) (m : ℕ) → 6 ≤ m → c .scheme ≡ Circular (sizeOf m) → soundCell 4096 block c ≡ false
+unfolding windowOf
+never-sound block c m h e =
+    let w = cellWindow c in
+    let p : 2 ^ 6 ≤ 2 ^ m = pow-mono h in
+    let z : w .size ≡ sizeOf m = rw e (aligned-size (c .pointer) (sizeOf m)) in
+    ⊎-elim
+    (λ sound.
+    let f = sound-cell-facts 4096 block c sound in
+    let i = f .inside in
+    absurd
+    (nothing-shared (w .start) (w .size) 0x100 0x148 (f .fixed .tables) 0x100 (omega arith) (omega arith) (omega arith) (omega arith)))
+    (λ not. not)
+    (yes-or-no (soundCell 4096 block c))
 
 pub ordinary-address :
     (length : ℕ) (w : Window) → w .start + w .size ≤ length → OffFixed w → (x : ℕ) → w .start ≤ x →

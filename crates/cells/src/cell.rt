@@ -1,6 +1,5 @@
 // A cell's description, read from its lookup word and its control word; its window; whether it is sound.
 ghost use mathlib.Core.Path.{_≡_};
-ghost use mathlib.Core.Bool.{cond, not};
 ghost use Prim.Native.Nat.{_<_};
 ghost use lib.ListN.{length};
 ghost use Rattle.cells.specs.Cell.{controlPart, sizeOf, doublesKind, pickScheme, schemeOf, cellAt, windowOf, doubleFits, soundCell};

@@ -1,6 +1,5 @@
 // The active stack: its pointer, its block, whether it is sound.
 ghost use mathlib.Core.Path.{_≡_};
-ghost use lib.ListN.{length};
 ghost use Rattle.cells.specs.Stack.{stackPointer, stackWindow, stackSound};
 use memory::map::stack_pointer_place;
 use memory::ram::word_at;

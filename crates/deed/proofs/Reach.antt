@@ -1,5 +1,5 @@
 -- The numbers of a deed are 16-bit words: places of an addressed window, and at most 32 words are stored.
-use Prim.Native.Nat.{ℕ, _≤_, _<_, min}
+use Prim.Native.Nat.{ℕ, _≤_, _<_}
 use native.Mathlib.Omega.{arith}
 use native.Mathlib.Nat.{min-le-right}
 use mathlib.Core.Logic.{⊎-elim}

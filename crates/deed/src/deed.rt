@@ -1,6 +1,5 @@
 // Rules 3 to 5: the words stored or sent, and where the cell's pointer goes.
 ghost use mathlib.Core.Path.{_≡_};
-ghost use mathlib.Core.Bool.{cond};
 ghost use Prim.Native.Nat.{min};
 ghost use Rattle.deed.specs.Addressed.{Addressed};
 ghost use Rattle.deed.specs.Deed.{withheld, wordsStored, wordsSent, actWith, actOf, mayMove, stride, isCircular, moves, motionWith, motionOf};

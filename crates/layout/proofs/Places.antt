@@ -1,7 +1,7 @@
 -- What stands at each place of a record's bytes and words: the definitions of Layout, Value and Writing, place by place.
 use Prim.Native.Nat.{ℕ, zero, suc, _+_, _*_, _/_, _%_, _<_, _≤_}
 use native.Mathlib.Omega.{arith}
-use mathlib.Core.Path.{_≡_, refl, _∙_}
+use mathlib.Core.Path.{_≡_, refl}
 use mathlib.Core.Logic.{_↔_, ⊎-elim}
 use mathlib.Core.Bool.{true, false, _&&_, or-true}
 use mathlib.Core.List.{List}

@@ -1,9 +1,9 @@
 -- The memory map (document 01, "Memory map (hexadecimal)").
 use Prim.Native.Nat.{ℕ, _+_, _*_, _/_, _%_, _^_}
-use mathlib.Core.Bool.{Bool, true, false, not, _||_}
+use mathlib.Core.Bool.{Bool, true, false, not}
 use mathlib.Core.List.{List}
 use lib.ListN.{getD}
-use lib.Dec.{ltb, eqb}
+use lib.Dec.{eqb}
 use Rattle.words.specs.declared.settings.Area.{Area}
 use Rattle.words.specs.declared.settings.Area.the-variants.{A, B}
 use Rattle.words.specs.Command.{transmits, subaddressOf, countField}

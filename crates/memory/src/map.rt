@@ -1,7 +1,6 @@
 // The memory map: where the terminal's own words stand in RAM.
 ghost use mathlib.Core.Path.{_≡_};
 ghost use Prim.Native.Nat.{_<_, _≤_};
-ghost use lib.ListN.{getD};
 ghost use Rattle.memory.specs.Map.{ramRefused, stackPointerPlace, lookupTable, controlPlace, busyPlace, illegalPlace, bitOf, bitSet, isBusyAt, isIllegalAt};
 use crate::ram::word_at;
 use words::command;

@@ -9,9 +9,7 @@ use lib.ListN.{length, take, drop}
 use lib.Dec.{leb}
 use borrow.Author.Tests.{le-leb, lt-leb, leb-true, leb-false}
 use Rattle.words.proofs.Basics.{lt-or-ge}
-use Rattle.layout.specs.declared.reader.Reading.{Reading}
 use Rattle.layout.specs.Layout.{readRecord}
-use Rattle.view.specs.declared.view.Taken.{Taken}
 use Rattle.view.specs.View.{hasRecord, noneAt, takenAt}
 
 -- the place and 80 more, without a sum that could overflow

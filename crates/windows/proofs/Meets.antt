@@ -4,10 +4,10 @@ use Prim.Native.Nat.{ℕ, _+_, _≤_, _<_}
 use native.Mathlib.Omega.{arith}
 use mathlib.Core.Path.{_≡_}
 use mathlib.Core.Logic.{_⊎_, inl, inr, ⊎-elim}
-use mathlib.Core.Bool.{true, false, and-comm, and-false}
+use mathlib.Core.Bool.{false, and-comm, and-false}
 use lib.Dec.{ltb}
-use borrow.Author.Tests.{ltb-true, lt-ltb, le-ltb}
-use Rattle.words.proofs.Basics.{and-both, and-left, and-right, not-both, lt-or-ge}
+use borrow.Author.Tests.{lt-ltb, le-ltb}
+use Rattle.words.proofs.Basics.{and-both, not-both, lt-or-ge}
 use Rattle.windows.specs.declared.window.Window.{Window}
 use Rattle.windows.specs.Window.{placeOf, meets, windowsMeet}
 use Rattle.windows.proofs.Wrap.{place-from, place-below}
@@ -39,13 +39,6 @@ module _ (a n b m : ℕ) where
   apart-no (inl l) = rw (le-ltb b (a + n) l, and-false)
   apart-no (inr l) = rw (le-ltb a (b + m) l)
 
-  pub meets-yes : meets a n b m ≡ true → (a < b + m) × (b < a + n)
-  unfolding meets
-  meets-yes e = (
-    ltb-true _ _ (and-left (ltb a (b + m)) (ltb b (a + n)) e),
-    ltb-true _ _ (and-right (ltb a (b + m)) (ltb b (a + n)) e),
-  )
-
   -- where the test says no, no address lies in both
   pub nothing-shared :
       meets a n b m ≡ false → (x : ℕ) → a ≤ x → x < a + n → b ≤ x → x < b + m → ⊥
@@ -68,18 +61,6 @@ module _ (a n b m : ℕ) where
       (lt-or-ge a (b + m)))
       (lt-or-ge a b)
 
--- a window that meets a run of words in no address has no place in it
-pub place-apart :
-    (w : Window) (b m k : ℕ) → 0 < w .size → meets (w .start) (w .size) b m ≡ false →
-    b ≤ placeOf w k → placeOf w k < b + m → ⊥
-place-apart w b m k h e p q =
-    nothing-shared (w .start) (w .size) b m e (placeOf w k) (place-from w k) (place-below w k h) p q
-
-pub place-not-at :
-    (w : Window) (b m k x : ℕ) → 0 < w .size → meets (w .start) (w .size) b m ≡ false →
-    b ≤ x → x < b + m → placeOf w k ≡ x → ⊥
-place-not-at w b m k x h e p q s = place-apart w b m k h e (omega arith) (omega arith)
-
 pub windows-swap : (v w : Window) → windowsMeet v w ≡ windowsMeet w v
 windows-swap v w = meets-swap (v .start) (v .size) (w .start) (w .size)
 
@@ -100,4 +81,6 @@ pub places-apart :
     (v w : Window) (i j : ℕ) → 0 < v .size → 0 < w .size → windowsMeet v w ≡ false →
     placeOf v i ≡ placeOf w j → ⊥
 places-apart v w i j h k e s =
-    place-not-at v (w .start) (w .size) i (placeOf w j) h e (place-from w j) (place-below w j k) s
+    nothing-shared (v .start) (v .size) (w .start) (w .size) e (placeOf v i) (place-from v i) (place-below v i h)
+    (rw s (place-from w j))
+    (rw s (place-below w j k))

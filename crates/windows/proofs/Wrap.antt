@@ -4,7 +4,7 @@ use Prim.Native.Nat.{ℕ, _+_, _-_, _*_, _/_, _%_, _≤_, _<_}
 use native.Mathlib.Nat.{mod-lt, mod-le, mod-eq-of-lt, mod-eq-sub-mod, mod-add-mod, div-add-mod, mul-add-mod-self-left}
 use native.Mathlib.Omega.{arith}
 use mathlib.Core.Path.{_≡_, refl, sym, ap, _∙_}
-use mathlib.Core.Logic.{_⊎_, inl, inr, ⊎-elim}
+use mathlib.Core.Logic.{⊎-elim}
 use mathlib.Core.Bool.{true, false}
 use borrow.Author.Tests.{leb-true, leb-false}
 use Rattle.words.proofs.Basics.{lt-or-ge}
@@ -114,15 +114,6 @@ module _ (p n : ℕ) where
       let o : p - p % n + (p % n + k) % n - (p - p % n) ≡ (p % n + k) % n = omega arith in
       rw (aligned-inside (p - p % n + (p % n + k) % n) (omega arith) (omega arith), o)
 
-  -- moving on by j and then by k is moving on by both
-  pub place-after :
-      (j k : ℕ) → 0 < n →
-      placeOf (aligned (placeOf (aligned p n) j) n) k ≡ placeOf (aligned p n) (j + k)
-  unfolding placeOf
-  place-after j k h =
-      let a : aligned p n .offset + j + k ≡ aligned p n .offset + (j + k) = omega arith in
-      rw (aligned-moved j h, aligned-size, mod-add-mod, a)
-
 -- two windows of the same words; their pointers may stand at different places
 pub record SameRun (v w : Window) : Type 0 where
   pub start : v .start ≡ w .start
@@ -153,23 +144,7 @@ pub double-flips : (p : ℕ) → Flipped p (placeOf (aligned p 64) 32)
 unfolding placeOf aligned
 double-flips p = omega arith
 
-pub double-up : (p : ℕ) → p % 64 ≡ 0 → placeOf (aligned p 64) 32 ≡ p + 32
-unfolding placeOf aligned
-double-up p h = omega arith
-
-pub double-down : (p : ℕ) → p % 64 ≡ 32 → placeOf (aligned p 64) 32 + 32 ≡ p
-unfolding placeOf aligned
-double-down p h = omega arith
-
--- "The pointer is a multiple of 32": one of the two halves
-pub double-half : (p : ℕ) → p % 32 ≡ 0 → (p % 64 ≡ 0) ⊎ (p % 64 ≡ 32)
-double-half p h =
-    ⊎-elim
-    (λ (l : p % 64 < 32). inl (omega arith))
-    (λ (l : 32 ≤ p % 64). inr (omega arith))
-    (lt-or-ge (p % 64) 32)
-
--- and its 32 words never wrap
+-- "The pointer is a multiple of 32": the 32 words of a half never wrap
 pub place-double : (p k : ℕ) → p % 32 ≡ 0 → k < 32 → placeOf (aligned p 64) k ≡ p + k
 unfolding placeOf aligned
 place-double p k h l = omega arith
