@@ -15,6 +15,7 @@ use Rattle.words.specs.Command.{subaddressOf}
 use Rattle.words.specs.Refusal.{firstOf, inOrder, firstRefusal}
 use Rattle.words.specs.Settings.{settingsRefused}
 use Rattle.words.proofs.Basics.{and-left, and-right, yes-or-no, lt-or-ge, not-both}
+use Rattle.words.proofs.Refusals.{accepted}
 use Rattle.memory.specs.Map.{ramRefused}
 use Rattle.memory.specs.Kind.{kindOf, cellNumber}
 use Rattle.cells.specs.Cell.{cellAt, soundCell}
@@ -26,20 +27,7 @@ use Rattle.cells.proofs.Block.{StackSound, stack-sound-facts, stack-facts-sound
 use Rattle.area.proofs.Lowest.{Lowest, lowest-is}
 use Rattle.area.proofs.Listed.{read-listed, command-read, numbered-cell}
 
--- the four tests, in the table's order
-record None (a b c d : Bool) : Type 0 where
-  one : a ≡ false
-  three : b ≡ false
-  eight : c ≡ false
-  nine : d ≡ false
-
-first-none : (a b c d : Bool) → firstFour a b c d ≡ 0 → None a b c d
-first-none true b c d e = absurd (omega arith)
-first-none false true c d e = absurd (omega arith)
-first-none false false true d e = absurd (omega arith)
-first-none false false false true e = absurd (omega arith)
-first-none false false false false e = record { one = refl; three = refl; eight = refl; nine = refl }
-
+-- 9 is answered where none of 1, 3 and 8 holds
 first-nine :
     (a b c d : Bool) → firstFour a b c d ≡ 9 → (a ≡ false) × (b ≡ false) × (c ≡ false) × (d ≡ true)
 first-nine true b c d e = absurd (omega arith)
@@ -121,12 +109,12 @@ module _ (ram : List ℕ) (s : Settings) where
 
   -- with 0 every listed cell is sound
   pub area-fine : checkArea ram s .number ≡ 0 → AreaFine ram s
-  unfolding checkArea
+  unfolding checkArea areaRefusal areaGrounds groundsWith
   area-fine e =
-      let f = first-none _ _ _ _ (rw four at e) in
-      let z : lowestUnsound ram s ≡ 0 = eqb-true _ _ (not-false _ (f .nine)) in
+      let a = accepted (areaGrounds ram s) .0 e in
+      let z : lowestUnsound ram s ≡ 0 = eqb-true _ _ (not-false _ (a .cell)) in
       record {
-        accepted = accept (f .one) (f .three) (f .eight);
+        accepted = accept (a .ram) (a .settings) (a .stack);
         cells = λ n r. good-sound n r (found .none z n (number-positive n r) (read-listed s n r .below));
       }
 
