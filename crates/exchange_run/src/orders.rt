@@ -1,83 +1,36 @@
-// Two messages in both orders: what each sends, and the words of RAM that the order decides.
+// Two messages in both orders: what is sent, and what RAM then holds where subaddress 3 receives.
 use crate::show;
+use crate::start::heard;
+use crate::start::image;
+use crate::start::settings;
 use exchange::neighbours::may_exchange;
-use memory::ram::word_at;
-use message::answer::Answer;
 use message::serve::message_from_value;
-use records::value::Record;
-use words::settings::Area;
-use words::settings::Remembered;
-use words::settings::Settings;
 use words::settings::nothing_remembered;
 
-fn settings() -> Settings {
-    Settings {
-        address: 5,
-        area: Area::A,
-        stack_size: 256,
-        overwrite_invalid: true,
-        separate_broadcast: false,
-        illegal_receive_disable: false,
-        busy_receive_disable: false,
-        busy_always: false,
-        service_request: false,
-        subsystem_flag: false,
-        terminal_flag: false,
-    }
-}
-
-// What a message brings and sends.
-fn told(v: Record, a: Answer, reply: &[u16]) {
-    show::word(b" ", v.command);
-    if 0 < v.count {
-        show::word(b" with ", v.words[0]);
-    }
-    show::word(b" sends ", word_at(reply, 0));
-    if 0 < a.sent {
-        show::word(b" ", word_at(reply, 1));
-    }
-}
-
-fn one(ram: &mut [u16], before: Remembered, v: Record) -> Remembered {
+// No answer depends on what is remembered.
+fn one(before: &[u8], ram: &mut [u16], command: u16, word: u16) {
     let mut reply = [0u16; 33];
-    let o = message_from_value(ram, &mut reply, settings(), before, v);
-    told(v, o.answer, &reply);
-    o.remembered
+    message_from_value(
+        ram,
+        &mut reply,
+        settings(),
+        nothing_remembered(),
+        heard(command, word),
+    );
+    show::message(before, command, word, reply[1]);
 }
 
-fn in_order(ram: &mut [u16], a: Record, b: Record) {
-    show::text(b"   ");
-    let r = one(ram, nothing_remembered(), a);
-    show::text(b",");
-    one(ram, r, b);
-    show::text(b"\n");
+fn in_order(a: u16, a_word: u16, b: u16, b_word: u16) {
+    let mut ram = image();
+    one(b"    ", &mut ram, a, a_word);
+    one(b", ", &mut ram, b, b_word);
+    show::word(b": 0480 ends as ", ram[0x0480]);
+    show::end();
 }
 
-// A word of RAM, if the two orders left it different.
-fn difference(place: u16, old: u16, new: u16) {
-    if old != new {
-        show::word(b"    ram ", place);
-        show::word(b" ends as ", old);
-        show::word(b" or as ", new);
-        show::text(b"\n");
-    }
-}
-
-// Outside the stack, which is 0F00-0FFF.
-fn differences(old: &[u16], new: &[u16]) {
-    let mut i: u16 = 0;
-    while i < 0x0F00 {
-        difference(i, word_at(old, i as usize), word_at(new, i as usize));
-        i += 1;
-    }
-}
-
-pub fn both_orders(title: &[u8], ram: [u16; 4096], a: Record, b: Record) {
-    show::text(title);
-    show::places(may_exchange(&ram, settings(), a, b));
-    let mut old = ram;
-    in_order(&mut old, a, b);
-    let mut new = ram;
-    in_order(&mut new, b, a);
-    differences(&old, &new);
+pub fn both_orders(title: &[u8], a: u16, a_word: u16, b: u16, b_word: u16) {
+    let may = may_exchange(&image(), settings(), heard(a, a_word), heard(b, b_word));
+    show::pair(title, may);
+    in_order(a, a_word, b, b_word);
+    in_order(b, b_word, a, a_word);
 }

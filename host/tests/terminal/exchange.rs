@@ -11,7 +11,7 @@ use plain_terminal::exchange::run::{differs, Met};
 use plain_terminal::exchange::said::Both;
 use plain_terminal::exchange::shrink::shrink_list;
 use plain_terminal::exchange::{compare_lists, Forgotten, List};
-use plain_terminal::terminal::Planted;
+use plain_terminal::terminal::{Planted, Record};
 
 const GOOD: Plain = Plain(Planted::None);
 
@@ -170,30 +170,24 @@ const PAIRS: [(&str, &str, &str); 6] = [
 /// What this terminal does with a pair, as `crates/exchange_run` prints it.
 fn printed(title: &str, list: &List) -> String {
     let both = Both::play(&GOOD, list, |_, _, _| ());
-    let may = match list.objection(&GOOD, Forgotten::Nothing) {
-        None => "may",
-        Some(_) => "may not",
+    let objection = list.objection(&GOOD, Forgotten::Nothing);
+    let may = if objection.is_none() {
+        "may"
+    } else {
+        "may not"
     };
     let mut text = format!("{title}: they {may} change places\n");
     for played in [&both.old, &both.new] {
-        let told = played.order.iter().map(|&number| {
-            let message = &list.messages[number];
-            let mut words = format!("{:04X}", message.command);
-            for word in &message.words[..message.words_held()] {
-                words += &format!(" with {word:04X}");
+        let messages = played.order.iter().map(|&number| {
+            let Record { command, words, .. } = list.messages[number];
+            match played.shown[number].reply[..] {
+                [_, sent] => format!("{command:04X} sends {sent:04X}"),
+                _ => format!("{command:04X} brings {:04X}", words[0]),
             }
-            words += " sends";
-            for word in &played.shown[number].reply {
-                words += &format!(" {word:04X}");
-            }
-            words
         });
-        text += &format!("    {}\n", told.collect::<Vec<_>>().join(", "));
-    }
-    let (old, new) = (&both.old.end.ram, &both.new.end.ram);
-    for place in (0..0x0F00).filter(|&place| old[place] != new[place]) {
-        let (old, new) = (old[place], new[place]);
-        text += &format!("    ram {place:04X} ends as {old:04X} or as {new:04X}\n");
+        let messages = messages.collect::<Vec<_>>().join(", ");
+        let word = played.end.ram[0x0480];
+        text += &format!("    {messages}: 0480 ends as {word:04X}\n");
     }
     text
 }
