@@ -1,9 +1,9 @@
 // Settings, remembered state, answers and record values as plain words. Single words are read and put from the last to the first:
 // where the last is there all are, so one test of the length is left. A value's words and a record's bytes are copied upwards, as far as there
-// is room.
+// is room; where there is room for all, the compiler sees a copy of fixed length.
 ghost use mathlib.Core.Path.{_≡_};
 ghost use Prim.Native.Nat.{min, _+_, _≤_};
-ghost use lib.ListN.{getD};
+ghost use lib.ListN.{getD, length};
 ghost use Rattle.boundary.specs.Boundary.{areaFrom, settingsFrom, rememberedFrom, rememberedInto, answerInto, valueFrom, valueInto, bytesInto};
 ghost use Rattle.records.specs.Fill.{fillFrom, fill};
 ghost use Rattle.records.specs.Value.{zeroWords};
@@ -99,12 +99,6 @@ pub(crate) fn put_outcome(remembered: &mut [u16], answer: &mut [u16], o: Outcome
     put_answer(answer, a);
 }
 
-fn smaller(a: usize, b: usize) -> usize
-    ensures { λ r. ⌜ r ≡ min a b ⌝ }
-{
-    if a < b { a } else { b }
-}
-
 fn capped_at(xs: &[u16], i: usize) -> u8
     ensures { λ r. ⌜ r ≡ min (getD (now (xs .entry)) i 0) 255 ⌝ }
 {
@@ -112,17 +106,26 @@ fn capped_at(xs: &[u16], i: usize) -> u8
     if w < 255 { w as u8 } else { 255 }
 }
 
-fn words_from(xs: &[u16]) -> [u16; 32]
+fn words_below(xs: &[u16], there: usize) -> [u16; 32]
+    requires { ⌜ there ≡ min (length (now xs)) 36 ⌝ }
     ensures { λ r. ⌜ r ≡ fill (λ k. getD (now (xs .entry)) (4 + k) 0) zeroWords 32 ⌝ }
 {
     let mut words = [0u16; 32];
-    let there = smaller(xs.len(), 36);
     let mut k: usize = 0;
     while 4 + k < there {
         words[k] = xs[4 + k];
         k += 1;
     }
     words
+}
+
+fn words_from(xs: &[u16]) -> [u16; 32]
+    ensures { λ r. ⌜ r ≡ fill (λ k. getD (now (xs .entry)) (4 + k) 0) zeroWords 32 ⌝ }
+{
+    if 36 <= xs.len() {
+        return words_below(xs, 36);
+    }
+    words_below(xs, xs.len())
 }
 
 pub(crate) fn value_from(xs: &[u16]) -> Record
@@ -141,14 +144,24 @@ pub(crate) fn value_from(xs: &[u16]) -> Record
     }
 }
 
-fn put_words(xs: &mut [u16], words: [u16; 32])
+fn put_words_below(xs: &mut [u16], words: [u16; 32], room: usize)
+    requires { ⌜ room ≡ min (length (now xs)) 36 ⌝ }
     ensures { λ r. ⌜ now (xs .exit) ≡ fillFrom 4 (λ k. getD words k 0) (now (xs .entry)) 32 ⌝ }
 {
-    let room = smaller(xs.len(), 36);
     let mut k: usize = 0;
     while 4 + k < room {
         xs[4 + k] = words[k];
         k += 1;
+    }
+}
+
+fn put_words(xs: &mut [u16], words: [u16; 32])
+    ensures { λ r. ⌜ now (xs .exit) ≡ fillFrom 4 (λ k. getD words k 0) (now (xs .entry)) 32 ⌝ }
+{
+    if 36 <= xs.len() {
+        put_words_below(xs, words, 36);
+    } else {
+        put_words_below(xs, words, xs.len());
     }
 }
 
@@ -160,13 +173,23 @@ pub(crate) fn put_value(xs: &mut [u16], v: Record)
     put_words(xs, words);
 }
 
-pub(crate) fn put_bytes(xs: &mut [u8], bytes: [u8; 80])
+fn put_bytes_below(xs: &mut [u8], bytes: [u8; 80], room: usize)
+    requires { ⌜ room ≡ min (length (now xs)) 80 ⌝ }
     ensures { λ r. ⌜ now (xs .exit) ≡ bytesInto (now (xs .entry)) bytes 80 ⌝ }
 {
-    let room = smaller(xs.len(), 80);
     let mut k: usize = 0;
     while k < room {
         xs[k] = bytes[k];
         k += 1;
+    }
+}
+
+pub(crate) fn put_bytes(xs: &mut [u8], bytes: [u8; 80])
+    ensures { λ r. ⌜ now (xs .exit) ≡ bytesInto (now (xs .entry)) bytes 80 ⌝ }
+{
+    if 80 <= xs.len() {
+        put_bytes_below(xs, bytes, 80);
+    } else {
+        put_bytes_below(xs, bytes, xs.len());
     }
 }

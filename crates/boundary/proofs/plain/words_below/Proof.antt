@@ -1,4 +1,4 @@
--- `words_from` meets its contract. The loop's invariant: the first `k` words are filled in.
+-- `words_below` meets its contract. The loop's invariant: the first `k` words are filled in.
 use borrow.Author.Needs.{needs}
 use native.Mathlib.Omega.{arith}
 use Prim.Native.Nat.{_≤_, _-_, _+_}
@@ -7,17 +7,14 @@ use lib.ListN.{getD, replicate}
 use Rattle.records.specs.Fill.{fillFrom, fill}
 use Rattle.records.proofs.Fill.{fill-more}
 use Rattle.boundary.proofs.Filled.{fill-whole}
-use Rattle.boundary.proofs.plain.words_from.Statement.{statement}
-use Rattle.boundary.proofs.plain.words_from.Tie as tie
+use Rattle.boundary.proofs.plain.words_below.Statement.{statement}
+use Rattle.boundary.proofs.plain.words_below.Tie as tie
 
 abbrev Inv-loop : tie.InvT-loop
-Inv-loop xs words₀ there k₀ words k = (k ≤ 32) × (words ≡ fill (λ j. getD xs (4 + j) 0) (replicate 32 0) k)
+Inv-loop xs there words₀ k₀ words k = (k ≤ 32) × (words ≡ fill (λ j. getD xs (4 + j) 0) (replicate 32 0) k)
 
 abbrev μ-loop : tie.MeasureT-loop
-μ-loop xs words₀ there k₀ words k = 32 - k
-
-smaller-requires : tie.Need-smaller-requires Inv-loop μ-loop
-smaller-requires c κs = search needs
+μ-loop xs there words₀ k₀ words k = 32 - k
 
 loop-holds : tie.Need-loop-holds Inv-loop μ-loop
 unfolding fillFrom
@@ -53,15 +50,14 @@ loop-again c = (omega arith, rw (fill-more, ← c .before .before .loop .inv .1)
 returns : tie.Need-returns Inv-loop μ-loop
 returns c =
     c .before .loop .inv .1
-    ∙ fill-whole (c .before .before .before .before .args .xs .now) (c .before .loop .k) (omega arith) (omega arith)
+    ∙ fill-whole (c .before .before .args .xs .now) (c .before .loop .k) (omega arith) (omega arith)
 
-pub words-from-spec : {M : Type 1} → statement M
-words-from-spec =
+pub words-below-spec : {M : Type 1} → statement M
+words-below-spec =
     tie.close
     (tie.spec
     Inv-loop
     μ-loop
-    smaller-requires
     loop-holds
     add-loop
     add-words

@@ -1,4 +1,4 @@
--- `put_words` meets its contract. The loop's invariant: the first `k` words are put.
+-- `put_words_below` meets its contract. The loop's invariant: the first `k` words are put.
 use borrow.Author.Needs.{needs}
 use native.Mathlib.Omega.{arith}
 use Prim.Native.Nat.{ℕ, _≤_, _-_}
@@ -7,17 +7,14 @@ use lib.ListN.{length, getD}
 use Rattle.records.specs.Fill.{fillFrom}
 use Rattle.records.proofs.Fill.{fill-from-more}
 use Rattle.boundary.proofs.Over.{fill-room}
-use Rattle.boundary.proofs.plain.put_words.Statement.{statement}
-use Rattle.boundary.proofs.plain.put_words.Tie as tie
+use Rattle.boundary.proofs.plain.put_words_below.Statement.{statement}
+use Rattle.boundary.proofs.plain.put_words_below.Tie as tie
 
 abbrev Inv-loop : tie.InvT-loop
-Inv-loop xs₀ words room k₀ xs k = (k ≤ 32) × ((length xs ≡ length xs₀) × (xs ≡ fillFrom 4 (λ j. getD words j 0) xs₀ k))
+Inv-loop xs₀ room words k₀ xs k = (k ≤ 32) × ((length xs ≡ length xs₀) × (xs ≡ fillFrom 4 (λ j. getD words j 0) xs₀ k))
 
 abbrev μ-loop : tie.MeasureT-loop
-μ-loop xs₀ words room k₀ xs k = 32 - k
-
-smaller-requires : tie.Need-smaller-requires Inv-loop μ-loop
-smaller-requires c κs = search needs
+μ-loop xs₀ room words k₀ xs k = 32 - k
 
 loop-holds : tie.Need-loop-holds Inv-loop μ-loop
 unfolding fillFrom
@@ -55,17 +52,16 @@ same-length c = search needs
 
 returns : tie.Need-returns Inv-loop μ-loop
 returns c =
-    let a = c .before .before .before .before .args in
+    let a = c .before .before .args in
     let f : ℕ → ℕ = λ j. getD (a .t2) j 0 in
     c .before .loop .inv .1 .1 ∙ fill-room 4 f (a .xs .now) (c .before .loop .k) 32 (omega arith) (omega arith)
 
-pub put-words-spec : {M : Type 1} → statement M
-put-words-spec =
+pub put-words-below-spec : {M : Type 1} → statement M
+put-words-below-spec =
     tie.close
     (tie.spec
     Inv-loop
     μ-loop
-    smaller-requires
     loop-holds
     add-loop
     mul-xs
