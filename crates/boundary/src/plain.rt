@@ -1,6 +1,6 @@
 // Settings, remembered state, answers and record values as plain words. Single words are read and put from the last to the first:
 // where the last is there all are, so one test of the length is left. A value's words and a record's bytes are copied upwards, as far as there
-// is room; where there is room for all, the compiler sees a copy of fixed length.
+// is room; where there is room for all of a value's words, the compiler sees a copy of fixed length.
 ghost use mathlib.Core.Path.{_≡_};
 ghost use Prim.Native.Nat.{min, _+_, _≤_};
 ghost use lib.ListN.{getD, length};
@@ -173,23 +173,20 @@ pub(crate) fn put_value(xs: &mut [u16], v: Record)
     put_words(xs, words);
 }
 
-fn put_bytes_below(xs: &mut [u8], bytes: [u8; 80], room: usize)
-    requires { ⌜ room ≡ min (length (now xs)) 80 ⌝ }
+fn smaller(a: usize, b: usize) -> usize
+    ensures { λ r. ⌜ r ≡ min a b ⌝ }
+{
+    if a < b { a } else { b }
+}
+
+// A copy of fixed length here has the compiler put the bytes one by one.
+pub(crate) fn put_bytes(xs: &mut [u8], bytes: [u8; 80])
     ensures { λ r. ⌜ now (xs .exit) ≡ bytesInto (now (xs .entry)) bytes 80 ⌝ }
 {
+    let room = smaller(xs.len(), 80);
     let mut k: usize = 0;
     while k < room {
         xs[k] = bytes[k];
         k += 1;
-    }
-}
-
-pub(crate) fn put_bytes(xs: &mut [u8], bytes: [u8; 80])
-    ensures { λ r. ⌜ now (xs .exit) ≡ bytesInto (now (xs .entry)) bytes 80 ⌝ }
-{
-    if 80 <= xs.len() {
-        put_bytes_below(xs, bytes, 80);
-    } else {
-        put_bytes_below(xs, bytes, xs.len());
     }
 }

@@ -1,4 +1,4 @@
--- `put_bytes_below` meets its contract. The loop's invariant: the first `k` bytes are put.
+-- `put_bytes` meets its contract. The loop's invariant: the first `k` bytes are put.
 use borrow.Author.Needs.{needs}
 use native.Mathlib.Omega.{arith}
 use Prim.Native.Nat.{ℕ, _≤_, _-_}
@@ -7,14 +7,17 @@ use lib.ListN.{length, getD}
 use Rattle.records.specs.Fill.{fillFrom, fill}
 use Rattle.records.proofs.Fill.{fill-more}
 use Rattle.boundary.proofs.Over.{fill-room}
-use Rattle.boundary.proofs.plain.put_bytes_below.Statement.{statement}
-use Rattle.boundary.proofs.plain.put_bytes_below.Tie as tie
+use Rattle.boundary.proofs.plain.put_bytes.Statement.{statement}
+use Rattle.boundary.proofs.plain.put_bytes.Tie as tie
 
 abbrev Inv-loop : tie.InvT-loop
-Inv-loop xs₀ room bytes k₀ xs k = (k ≤ 80) × ((length xs ≡ length xs₀) × (xs ≡ fill (λ j. getD bytes j 0) xs₀ k))
+Inv-loop xs₀ bytes room k₀ xs k = (k ≤ 80) × ((length xs ≡ length xs₀) × (xs ≡ fill (λ j. getD bytes j 0) xs₀ k))
 
 abbrev μ-loop : tie.MeasureT-loop
-μ-loop xs₀ room bytes k₀ xs k = 80 - k
+μ-loop xs₀ bytes room k₀ xs k = 80 - k
+
+smaller-requires : tie.Need-smaller-requires Inv-loop μ-loop
+smaller-requires c κs = search needs
 
 loop-holds : tie.Need-loop-holds Inv-loop μ-loop
 unfolding fillFrom
@@ -40,16 +43,17 @@ same-length c = search needs
 
 returns : tie.Need-returns Inv-loop μ-loop
 returns c =
-    let a = c .before .before .args in
+    let a = c .before .before .before .before .args in
     let f : ℕ → ℕ = λ j. getD (a .t2) j 0 in
     c .before .loop .inv .1 .1 ∙ fill-room 0 f (a .xs .now) (c .before .loop .k) 80 (omega arith) (omega arith)
 
-pub put-bytes-below-spec : {M : Type 1} → statement M
-put-bytes-below-spec =
+pub put-bytes-spec : {M : Type 1} → statement M
+put-bytes-spec =
     tie.close
     (tie.spec
     Inv-loop
     μ-loop
+    smaller-requires
     loop-holds
     array-read-xs
     slice-write-xs
