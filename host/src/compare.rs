@@ -9,8 +9,10 @@ pub mod run;
 pub mod shrink;
 pub mod sides;
 pub mod traces;
+mod verdict;
 
 pub use case::Case;
 pub(crate) use classes::classes;
 pub use run::{compare, Finding};
 pub use sides::{Plain, Side};
+pub use verdict::verdict;

@@ -9,7 +9,7 @@ use plain_terminal::compare::coverage::Coverage;
 use plain_terminal::compare::replay::{read_case, write_case};
 use plain_terminal::compare::shrink::shrink;
 use plain_terminal::compare::sides::Proved;
-use plain_terminal::compare::{compare, Case, Plain};
+use plain_terminal::compare::{compare, verdict, Case, Plain};
 use plain_terminal::terminal::Planted;
 
 const USAGE: &str = "usage: compare [--messages N] [--seed N] [--planted ERROR] [--replay FILE]";
@@ -23,14 +23,7 @@ struct Options {
 }
 
 fn main() -> ExitCode {
-    match options().and_then(run) {
-        Ok(true) => ExitCode::SUCCESS,
-        Ok(false) => ExitCode::FAILURE,
-        Err(error) => {
-            eprintln!("compare: {error}");
-            ExitCode::from(2)
-        }
-    }
+    verdict("compare", options().and_then(run))
 }
 
 fn options() -> Result<Options, Box<dyn Error>> {

@@ -7,6 +7,7 @@ use std::fs;
 use std::process::ExitCode;
 
 use plain_terminal::compare::sides::Proved;
+use plain_terminal::compare::verdict;
 use plain_terminal::exchange::replay::{read_list, write_list};
 use plain_terminal::exchange::run::{compare_lists, differs, Finding, Met};
 use plain_terminal::exchange::said::Both;
@@ -27,14 +28,7 @@ struct Options {
 }
 
 fn main() -> ExitCode {
-    match options().and_then(run) {
-        Ok(true) => ExitCode::SUCCESS,
-        Ok(false) => ExitCode::FAILURE,
-        Err(error) => {
-            eprintln!("compare_exchanges: {error}");
-            ExitCode::from(2)
-        }
-    }
+    verdict("compare_exchanges", options().and_then(run))
 }
 
 fn options() -> Result<Options, Box<dyn Error>> {

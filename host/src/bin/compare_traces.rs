@@ -8,6 +8,7 @@ use std::process::{Command, ExitCode, Stdio};
 use std::thread;
 
 use plain_terminal::compare::traces::{random_trace, shrink_trace};
+use plain_terminal::compare::verdict;
 use plain_terminal::random::Random;
 use plain_terminal::terminal::records::RECORD_BYTES;
 use plain_terminal::terminal::trace::{planted_trace_output, IMAGE_BYTES};
@@ -27,14 +28,10 @@ struct Options {
 }
 
 fn main() -> ExitCode {
-    match options().and_then(|options| run(&options)) {
-        Ok(true) => ExitCode::SUCCESS,
-        Ok(false) => ExitCode::FAILURE,
-        Err(error) => {
-            eprintln!("compare_traces: {error}");
-            ExitCode::from(2)
-        }
-    }
+    verdict(
+        "compare_traces",
+        options().and_then(|options| run(&options)),
+    )
 }
 
 fn options() -> Result<Options, Box<dyn Error>> {
