@@ -8,6 +8,7 @@ use lib.Seq.{ext-getD}
 use Rattle.records.specs.Fill.{fill}
 use Rattle.records.specs.Value.{zeroWords}
 use Rattle.records.proofs.Fill.{length-fill, fill-at, fill-later}
+use Rattle.layout.specs.Exchanged.{exchanged}
 use Rattle.layout.specs.Layout.{wordAt}
 
 -- a list that is filled in whole has nothing left of what it was
@@ -18,8 +19,8 @@ fill-anew f xs ys n p q =
     let l : k < n = omega (arith, length-fill 0 f xs n) in
     fill-at f xs n k (omega arith) l ∙ sym (fill-at f ys n k (omega arith) l))
 
-exchanged : (h l : ℕ) → h < 256 → l < 256 → (l * 256 + h) % 256 * 256 + (l * 256 + h) / 256 ≡ h * 256 + l
-exchanged h l a b = omega arith
+exchanged-pair : (h l : ℕ) → h < 256 → l < 256 → exchanged (l * 256 + h) ≡ h * 256 + l
+exchanged-pair h l a b = omega arith
 
 -- word k of the bytes with the low byte first
 abbrev pub lowFirst : List ℕ → ℕ → ℕ
@@ -32,11 +33,11 @@ highFirst s k = wordAt s (16 + 2 * k)
 pub exchange-next :
     (s copied words : List ℕ) (i : ℕ) → copied ≡ fill (lowFirst s) zeroWords 32 → words ≡ fill (highFirst s) copied i →
     i < 32 → getD s (16 + 2 * i) 0 < 256 → getD s (16 + 2 * i + 1) 0 < 256 →
-    getD words i 0 % 256 * 256 + getD words i 0 / 256 ≡ highFirst s i
+    exchanged (getD words i 0) ≡ highFirst s i
 exchange-next s copied words i p q h a b =
     let e : getD words i 0 ≡ lowFirst s i =
     rw q (fill-later (highFirst s) copied i i (omega arith) ∙ rw p (fill-at (lowFirst s) zeroWords 32 i (omega arith) h)) in
-    rw e (exchanged (getD s (16 + 2 * i) 0) (getD s (16 + 2 * i + 1) 0) a b)
+    rw e (exchanged-pair (getD s (16 + 2 * i) 0) (getD s (16 + 2 * i + 1) 0) a b)
 
 pub exchanged-all :
     (s copied : List ℕ) → copied ≡ fill (lowFirst s) zeroWords 32 →

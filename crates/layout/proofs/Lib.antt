@@ -1,3 +1,4 @@
+pub mod Exchanged
 pub mod Turns
 pub mod Cases
 pub mod Places

@@ -1,3 +1,4 @@
+pub mod Exchanged
 pub mod Layout
 pub mod Writing
 pub mod RoundTrip

@@ -3,6 +3,7 @@ ghost use mathlib.Core.Path.{_≡_};
 ghost use Prim.Native.Nat.{_+_, _*_, _/_, _%_, _≤_};
 ghost use lib.ListN.{length, getD};
 ghost use Rattle.layout.specs.Layout.{wordAt, areZero, wordsIn, valueIn, breaksLayout, readRecord, notRead};
+ghost use Rattle.layout.specs.Exchanged.{exchanged};
 ghost use Rattle.records.specs.Fill.{fill};
 ghost use Rattle.records.specs.Value.{zeroWords};
 use records::value::Record;
@@ -59,10 +60,10 @@ fn copied_words(s: &[u8]) -> [u16; 32]
     words
 }
 
-fn exchange_bytes(w: u16) -> u16
-    ensures { λ r. ⌜ r ≡ w % 256 * 256 + w / 256 ⌝ }
+pub(crate) fn exchange_bytes(w: u16) -> u16
+    ensures { λ r. ⌜ r ≡ exchanged w ⌝ }
 {
-    w % 256 * 256 + w / 256
+    w % 256 * 256 + w / 256 % 256
 }
 
 // Copied first, so that the bytes are exchanged in eight words at a time. Joined from two bytes each, they come one by one.

@@ -1,6 +1,8 @@
 // The record writer: a value to 80 bytes, or refusal 5.
 ghost use mathlib.Core.Path.{_≡_};
+ghost use Rattle.layout.specs.Exchanged.{allExchanged};
 ghost use Rattle.layout.specs.Writing.{headerOf, putWords, writeRecord};
+use crate::reader::exchange_bytes;
 use records::value::Record;
 use records::value::keeps_layout;
 
@@ -23,17 +25,36 @@ fn header_of(v: Record) -> [u8; 80]
     bytes
 }
 
-fn put_words(header: [u8; 80], words: [u16; 32]) -> [u8; 80]
-    ensures { λ r. ⌜ r ≡ putWords header words 32 ⌝ }
+fn exchanged_words(words: [u16; 32]) -> [u16; 32]
+    ensures { λ r. ⌜ r ≡ allExchanged words ⌝ }
+{
+    let mut turned = words;
+    let mut i: usize = 0;
+    while i < 32 {
+        turned[i] = exchange_bytes(words[i]);
+        i += 1;
+    }
+    turned
+}
+
+// What is put with the low byte first is a copy to the compiler.
+fn put_low_first(header: [u8; 80], turned: [u16; 32]) -> [u8; 80]
+    ensures { λ r. ⌜ r ≡ putWords header (allExchanged turned) 32 ⌝ }
 {
     let mut bytes = header;
     let mut i: usize = 0;
     while i < 32 {
-        bytes[16 + 2 * i] = (words[i] / 256 % 256) as u8;
-        bytes[16 + 2 * i + 1] = (words[i] % 256) as u8;
+        bytes[16 + 2 * i] = (turned[i] % 256) as u8;
+        bytes[16 + 2 * i + 1] = (turned[i] / 256 % 256) as u8;
         i += 1;
     }
     bytes
+}
+
+fn put_words(header: [u8; 80], words: [u16; 32]) -> [u8; 80]
+    ensures { λ r. ⌜ r ≡ putWords header words 32 ⌝ }
+{
+    put_low_first(header, exchanged_words(words))
 }
 
 pub fn write(v: Record) -> Written
