@@ -21,7 +21,7 @@ fn fields(w: u16) {
     show::end();
 }
 
-// The grounds `from` to 9 hold, and no other.
+// The grounds `first` to 9 hold, and no other.
 fn from(first: u16) {
     let g = Grounds {
         ram: first <= 1,
@@ -37,7 +37,7 @@ fn from(first: u16) {
     show::number(words::refusal::first_refusal(g));
 }
 
-// The ground `only` holds, and no other.
+// The ground `it` holds, and no other.
 fn only(it: u16) {
     let g = Grounds {
         ram: it == 1,
