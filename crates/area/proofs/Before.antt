@@ -1,57 +1,75 @@
 -- The whole-area check in two steps: 1, 3 and 8 first, and 9 only where none of them is answered.
-use Prim.Native.Nat.{ℕ}
+use Prim.Native.Nat.{ℕ, _≤_}
 use native.Mathlib.Omega.{arith}
-use mathlib.Core.Path.{_≡_, refl}
+use mathlib.Core.Path.{_≡_, refl, _∙_}
 use mathlib.Core.Logic.{⊎-elim}
 use mathlib.Core.Bool.{Bool, true, false, not, cond}
-use mathlib.Core.List.{List}
+use mathlib.Core.List.{List, [], _∷_}
 use lib.ListN.{length}
 use lib.Dec.{eqb}
-use borrow.Author.Tests.{eqb-true}
+use borrow.Author.Tests.{eqb-true, ne-eqb, not-false}
 use Rattle.words.specs.declared.settings.Settings.{Settings}
-use Rattle.words.specs.Refusal.{firstOf, inOrder, firstRefusal}
+use Rattle.words.specs.Number.{ramLength, badSettings, unsoundStack, unsoundCell}
+use Rattle.words.specs.Refusal.{_when_, firstOf}
 use Rattle.words.specs.Settings.{settingsRefused}
 use Rattle.words.proofs.Basics.{yes-or-no}
+use Rattle.words.proofs.Refusals.{accepted, first-stops, first-passes, first-at-most}
 use Rattle.memory.specs.Map.{ramRefused}
 use Rattle.cells.specs.Stack.{stackSound}
-use Rattle.area.specs.declared.area.Checked.{Checked}
-use Rattle.area.specs.Area.{lowestUnsound, groundsWith, areaGrounds, areaRefusal, refusedBefore, checkArea}
+use Rattle.cells.proofs.Block.{StackSound, stack-sound-facts, stack-facts-sound}
+use Rattle.area.specs.Area.{lowestUnsound, groundTests, areaRefusal, groundRefusal, checkArea}
 
-abbrev pub firstFour : Bool → Bool → Bool → Bool → ℕ
-firstFour a b c d = cond a 1 (cond b 3 (cond c 8 (cond d 9 0)))
-
-abbrev answered : ℕ → ℕ → Checked
-answered number cell = record { number = number; cell = cond (eqb number 9) cell 0 }
-
--- over plain truth values: a number found before is the answer, and names no cell
-plain-refused :
-    (a b c d : Bool) (cell : ℕ) → (firstFour a b c false ≡ 0 → ⊥) →
-    record { number = firstFour a b c false; cell = 0 } ≡ answered (firstFour a b c d) cell
-plain-refused true b c d cell h = refl
-plain-refused false true c d cell h = refl
-plain-refused false false true d cell h = refl
-plain-refused false false false d cell h = absurd (h refl)
-
--- and else the answer is 9 with the cell, or 0
-plain-none :
-    (a b c : Bool) (cell : ℕ) → firstFour a b c false ≡ 0 →
-    record { number = cond (eqb cell 0) 0 9; cell = cell } ≡ answered (firstFour a b c (not (eqb cell 0))) cell
-plain-none true b c cell h = absurd (omega arith)
-plain-none false true c cell h = absurd (omega arith)
-plain-none false false true cell h = absurd (omega arith)
-plain-none false false false cell h =
-    ⊎-elim (λ (e : eqb cell 0 ≡ true). rw (eqb-true cell 0 e)) (λ (e : eqb cell 0 ≡ false). rw e) (yes-or-no (eqb cell 0))
+-- 1, 3 and 8 do not hold
+pub record AreaAccepted (ram : List ℕ) (s : Settings) : Type 0 where
+  pub ram-accepted : ramRefused (length ram) ≡ false
+  pub settings-accepted : settingsRefused s ≡ false
+  pub stack-sound : StackSound ram s
 
 module _ (ram : List ℕ) (s : Settings) where
-  pub before-refused : (refusedBefore ram s ≡ 0 → ⊥) → record { number = refusedBefore ram s; cell = 0 } ≡ checkArea ram s
-  unfolding refusedBefore checkArea areaRefusal areaGrounds groundsWith firstRefusal inOrder firstOf
-  before-refused h =
-      plain-refused (ramRefused (length ram)) (settingsRefused s) (not (stackSound ram s)) (not (eqb (lowestUnsound ram s) 0))
-      (lowestUnsound ram s) h
+  pub ground-small : groundRefusal ram s ≤ 8
+  unfolding groundRefusal
+  ground-small = first-at-most 8 (groundTests ram s) refl
 
+  pub ground-stops : (groundRefusal ram s ≡ 0 → ⊥) → areaRefusal ram s ≡ groundRefusal ram s
+  unfolding groundRefusal areaRefusal
+  ground-stops h =
+      first-stops (groundTests ram s) (unsoundCell when not (eqb (lowestUnsound ram s) 0) ∷ []) refl h
+
+  pub ground-passes : groundRefusal ram s ≡ 0 → areaRefusal ram s ≡ cond (not (eqb (lowestUnsound ram s) 0)) unsoundCell 0
+  unfolding groundRefusal areaRefusal firstOf
+  ground-passes e =
+      first-passes (groundTests ram s) (unsoundCell when not (eqb (lowestUnsound ram s) 0) ∷ []) refl e
+
+  pub ground-accepted : groundRefusal ram s ≡ 0 → AreaAccepted ram s
+  unfolding groundRefusal
+  ground-accepted e =
+      let a = accepted (groundTests ram s) refl e in
+      record {
+        ram-accepted = a ramLength;
+        settings-accepted = a badSettings;
+        stack-sound = stack-sound-facts ram s (not-false (stackSound ram s) (a unsoundStack));
+      }
+
+  pub accepted-ground : AreaAccepted ram s → groundRefusal ram s ≡ 0
+  unfolding groundRefusal firstOf
+  accepted-ground f =
+      rw (f .ram-accepted, f .settings-accepted, stack-facts-sound ram s (f .stack-sound))
+
+  -- a number found before is the answer, and names no cell
+  pub before-refused : (groundRefusal ram s ≡ 0 → ⊥) → record { number = groundRefusal ram s; cell = 0 } ≡ checkArea ram s
+  unfolding checkArea
+  before-refused h =
+      let other : groundRefusal ram s ≡ unsoundCell → ⊥ = λ e. omega (arith, ground-small) in
+      rw (ground-stops h, ne-eqb (groundRefusal ram s) unsoundCell other)
+
+  -- and else the answer is 9 with the cell, or 0
   pub before-none :
-      refusedBefore ram s ≡ 0 →
-      record { number = cond (eqb (lowestUnsound ram s) 0) 0 9; cell = lowestUnsound ram s } ≡ checkArea ram s
-  unfolding refusedBefore checkArea areaRefusal areaGrounds groundsWith firstRefusal inOrder firstOf
+      groundRefusal ram s ≡ 0 →
+      record { number = cond (eqb (lowestUnsound ram s) 0) 0 unsoundCell; cell = lowestUnsound ram s } ≡ checkArea ram s
+  unfolding checkArea
   before-none h =
-      plain-none (ramRefused (length ram)) (settingsRefused s) (not (stackSound ram s)) (lowestUnsound ram s) h
+      rw (ground-passes h)
+      (⊎-elim
+      (λ (e : eqb (lowestUnsound ram s) 0 ≡ true). rw (e, eqb-true (lowestUnsound ram s) 0 e))
+      (λ (e : eqb (lowestUnsound ram s) 0 ≡ false). rw e)
+      (yes-or-no (eqb (lowestUnsound ram s) 0)))

@@ -6,3 +6,6 @@ use Rattle.area.proofs.area
 
 pub check-area-settled : Settled 1 area.check_area.Kinds.ps area.check_area.Kinds.r area.check_area.Reads.Post
 check-area-settled κs a x y v w p q = (determined p q, refl)
+
+pub ground-refusal-settled : Settled 1 area.ground_refusal.Kinds.ps area.ground_refusal.Kinds.r area.ground_refusal.Reads.Post
+ground-refusal-settled κs a x y v w p q = (determined p q, refl)

@@ -1,13 +1,13 @@
 -- The whole-area check. "The whole-area check answers the first of 1, 3, 8, or 9 with the lowest unsound cell number among
 -- subaddresses 1-30; broadcast cells are read only if separate-broadcast is on."
 use Prim.Native.Nat.{ℕ, zero, suc, _%_}
-use mathlib.Core.Bool.{Bool, false, not, cond, _&&_, _||_}
-use mathlib.Core.List.{List}
+use mathlib.Core.Bool.{Bool, not, cond, _&&_, _||_}
+use mathlib.Core.List.{List, [], _∷_, _++_}
 use lib.ListN.{length}
 use lib.Dec.{ltb, leb, eqb}
 use Rattle.words.specs.declared.settings.Settings.{Settings}
-use Rattle.words.specs.declared.refusal.Grounds.{Grounds}
-use Rattle.words.specs.Refusal.{firstRefusal}
+use Rattle.words.specs.Number.{ramLength, badSettings, unsoundStack, unsoundCell}
+use Rattle.words.specs.Refusal.{Test, _when_, firstOf}
 use Rattle.words.specs.Settings.{settingsRefused}
 use Rattle.cells.specs.declared.cell.Cell.{Cell}
 use Rattle.windows.specs.declared.window.Window.{Window}
@@ -44,33 +44,26 @@ lowest bad (suc n) = orElse (lowest bad n) (bad n) n
 unfoldable pub lowestUnsound : List ℕ → Settings → ℕ
 lowestUnsound ram s = lowest (isUnsound ram s (stackWindow ram s)) 96
 
--- the check is given RAM and settings: 1, 3, 8, 9
-unfoldable pub groundsWith : List ℕ → Settings → Bool → Grounds
-groundsWith ram s unsound =
-    record {
-      ram = ramRefused (length ram);
-      reply = false;
-      settings = settingsRefused s;
-      length = false;
-      layout = false;
-      address = false;
-      subaddress = false;
-      stack = not (stackSound ram s);
-      cell = unsound;
-    }
+-- what is tested of RAM and settings before a cell is looked at
+abbrev pub groundTests : List ℕ → Settings → List Test
+groundTests ram s =
+    ramLength when ramRefused (length ram)
+    ∷ badSettings when settingsRefused s
+    ∷ unsoundStack when not (stackSound ram s)
+    ∷ []
 
-unfoldable pub areaGrounds : List ℕ → Settings → Grounds
-areaGrounds ram s = groundsWith ram s (not (eqb (lowestUnsound ram s) 0))
+-- the check's tests: "the first of 1, 3, 8, or 9"
+abbrev pub areaTests : List ℕ → Settings → List Test
+areaTests ram s = groundTests ram s ++ (unsoundCell when not (eqb (lowestUnsound ram s) 0) ∷ [])
 
--- "the first of 1, 3, 8, or 9"
 unfoldable pub areaRefusal : List ℕ → Settings → ℕ
-areaRefusal ram s = firstRefusal (areaGrounds ram s)
+areaRefusal ram s = firstOf (areaTests ram s)
 
--- the same with no cell looked at: 1, 3, 8
-unfoldable pub refusedBefore : List ℕ → Settings → ℕ
-refusedBefore ram s = firstRefusal (groundsWith ram s false)
+-- the same with no cell looked at
+unfoldable pub groundRefusal : List ℕ → Settings → ℕ
+groundRefusal ram s = firstOf (groundTests ram s)
 
 -- "only the whole-area check adds a cell number, to 9"
 unfoldable pub checkArea : List ℕ → Settings → Checked
 checkArea ram s =
-    record { number = areaRefusal ram s; cell = cond (eqb (areaRefusal ram s) 9) (lowestUnsound ram s) 0 }
+    record { number = areaRefusal ram s; cell = cond (eqb (areaRefusal ram s) unsoundCell) (lowestUnsound ram s) 0 }

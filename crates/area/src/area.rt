@@ -2,7 +2,7 @@
 ghost use mathlib.Core.Path.{_≡_};
 ghost use mathlib.Core.Bool.{true};
 ghost use Rattle.memory.specs.Kind.{cellNumber};
-ghost use Rattle.area.specs.Area.{isRead, isUnsound, lowest, lowestUnsound, refusedBefore, checkArea};
+ghost use Rattle.area.specs.Area.{isRead, isUnsound, lowest, lowestUnsound, groundRefusal, checkArea};
 use cells::cell::cell_at;
 use cells::cell::sound_cell;
 use cells::stack::stack_sound;
@@ -13,8 +13,10 @@ use memory::map::ram_refused;
 use windows::window::Window;
 use words::choose::no;
 use words::choose::pick;
-use words::refusal::Grounds;
-use words::refusal::first_refusal;
+use words::number::BAD_SETTINGS;
+use words::number::RAM_LENGTH;
+use words::number::UNSOUND_CELL;
+use words::number::UNSOUND_STACK;
 use words::settings::Settings;
 use words::settings::settings_refused;
 
@@ -31,7 +33,7 @@ fn lowest_of_kind(ram: &[u16], s: Settings, stack: Window, kind: Kind) -> u16
 {
     let mut sub: u16 = 1;
     while sub <= 30 {
-        // not before the loop, whose invariant speaks of the settings
+        // inside the loop: taken before it, the area would be one more thing for the loop's invariant to speak of
         let area = s.area;
         let c = cell_at(ram, area, kind, sub);
         if !sound_cell(ram.len(), stack, c) {
@@ -61,38 +63,33 @@ fn lowest_unsound(ram: &[u16], s: Settings) -> u16
     0
 }
 
-// The first of 1, 3 and 8, or 0: what is tested before a cell is looked at. RAM's length comes first and by itself: so the
-// compiler knows it wherever RAM is read, and leaves out the test of each place.
-fn refused_before(ram: &[u16], s: Settings) -> u16
-    ensures { λ r. ⌜ r ≡ refusedBefore (now (ram .entry)) s ⌝ }
+// The first of 1, 3 and 8, or 0: what is tested before a cell is looked at. RAM's length comes first, so the compiler knows
+// it wherever RAM is read, and leaves out the test of each place.
+pub fn ground_refusal(ram: &[u16], s: Settings) -> u16
+    ensures { λ r. ⌜ r ≡ groundRefusal (now (ram .entry)) s ⌝ }
 {
     if ram_refused(ram.len()) {
-        return 1;
+        return RAM_LENGTH;
     }
-    let sound = stack_sound(ram, s);
-    first_refusal(Grounds {
-        ram: false,
-        reply: false,
-        settings: settings_refused(s),
-        length: false,
-        layout: false,
-        address: false,
-        subaddress: false,
-        stack: no(sound),
-        cell: false,
-    })
+    if settings_refused(s) {
+        return BAD_SETTINGS;
+    }
+    if no(stack_sound(ram, s)) {
+        return UNSOUND_STACK;
+    }
+    0
 }
 
 pub fn check_area(ram: &[u16], s: Settings) -> Checked
     ensures { λ r. ⌜ r ≡ checkArea (now (ram .entry)) s ⌝ }
 {
-    let number = refused_before(ram, s);
+    let number = ground_refusal(ram, s);
     if number != 0 {
         return Checked { number, cell: 0 };
     }
     let cell = lowest_unsound(ram, s);
     Checked {
-        number: pick(cell == 0, 0, 9),
+        number: pick(cell == 0, 0, UNSOUND_CELL),
         cell,
     }
 }

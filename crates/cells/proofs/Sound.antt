@@ -48,38 +48,38 @@ multiple-double Double p h = eq-eqb (p % 32) 0 (h refl)
 multiple-double (Circular n) p h = refl
 
 -- the sentence "A cell is sound if ..", fact by fact; `block` is the stack's window
-pub record CellSound (length : ℕ) (block : Window) (c : Cell) : Type 0 where
-  pub pointer : c .pointer < length
-  pub inside : cellWindow c .start + cellWindow c .size ≤ length
+pub record CellSound (words : ℕ) (block : Window) (c : Cell) : Type 0 where
+  pub pointer : c .pointer < words
+  pub inside : cellWindow c .start + cellWindow c .size ≤ words
   pub double : c .scheme ≡ Double → c .pointer % 32 ≡ 0
   pub fixed : OffFixed (cellWindow c)
   pub stack : windowsMeet (cellWindow c) block ≡ false
 
-module _ (length : ℕ) (block : Window) (c : Cell) where
-  pub sound-cell-facts : soundCell length block c ≡ true → CellSound length block c
+module _ (words : ℕ) (block : Window) (c : Cell) where
+  pub sound-cell-facts : soundCell words block c ≡ true → CellSound words block c
   unfolding soundCell
   sound-cell-facts e =
       let w = cellWindow c in
-      let in-ram = ltb (c .pointer) length && fitsBelow w length in
+      let in-ram = ltb (c .pointer) words && fitsBelow w words in
       let fits = in-ram && doubleFits (c .scheme) (c .pointer) in
       let apart : (meetsFixed w || windowsMeet w block) ≡ false = not-true _ (and-right fits (not (meetsFixed w || windowsMeet w block)) e) in
       let a : fits ≡ true = and-left fits (not (meetsFixed w || windowsMeet w block)) e in
       let b : in-ram ≡ true = and-left in-ram (doubleFits (c .scheme) (c .pointer)) a in
       record {
-        pointer = ltb-true _ _ (and-left (ltb (c .pointer) length) (fitsBelow w length) b);
-        inside = leb-true _ _ (and-right (ltb (c .pointer) length) (fitsBelow w length) b);
+        pointer = ltb-true _ _ (and-left (ltb (c .pointer) words) (fitsBelow w words) b);
+        inside = leb-true _ _ (and-right (ltb (c .pointer) words) (fitsBelow w words) b);
         double = double-multiple (c .scheme) (c .pointer) (and-right in-ram (doubleFits (c .scheme) (c .pointer)) a);
         fixed = fixed-off w (or-left (meetsFixed w) (windowsMeet w block) apart);
         stack = or-right (meetsFixed w) (windowsMeet w block) apart;
       }
 
-  pub cell-facts-sound : CellSound length block c → soundCell length block c ≡ true
+  pub cell-facts-sound : CellSound words block c → soundCell words block c ≡ true
   unfolding soundCell
   cell-facts-sound f =
       let w = cellWindow c in
       rw (
-        lt-ltb (c .pointer) length (f .pointer),
-        le-leb (w .start + w .size) length (f .inside),
+        lt-ltb (c .pointer) words (f .pointer),
+        le-leb (w .start + w .size) words (f .inside),
         multiple-double (c .scheme) (c .pointer) (f .double),
         off-fixed w (f .fixed),
         f .stack,
@@ -103,9 +103,9 @@ never-sound block c m h e =
     (yes-or-no (soundCell 4096 block c))
 
 pub ordinary-address :
-    (length : ℕ) (w : Window) → w .start + w .size ≤ length → OffFixed w → (x : ℕ) → w .start ≤ x →
-    x < w .start + w .size → OrdinaryAddress length x
-ordinary-address length w i f x l h =
+    (words : ℕ) (w : Window) → w .start + w .size ≤ words → OffFixed w → (x : ℕ) → w .start ≤ x →
+    x < w .start + w .size → OrdinaryAddress words x
+ordinary-address words w i f x l h =
     record {
       inside = omega arith;
       tables = λ p q. nothing-shared (w .start) (w .size) 0x100 0x148 (f .tables) x l h p (omega arith);
@@ -113,30 +113,30 @@ ordinary-address length w i f x l h =
     }
 
 -- an ordinary address that is not in the stack's block
-pub record FreeAddress (length : ℕ) (block : Window) (x : ℕ) : Type 0 where
-  pub ordinary : OrdinaryAddress length x
+pub record FreeAddress (words : ℕ) (block : Window) (x : ℕ) : Type 0 where
+  pub ordinary : OrdinaryAddress words x
   pub stack : block .start ≤ x → x < block .start + block .size → ⊥
 
-module _ (length : ℕ) (block : Window) (c : Cell) (f : CellSound length block c) where
+module _ (words : ℕ) (block : Window) (c : Cell) (f : CellSound words block c) where
   -- every address of a sound cell's window is free
   pub sound-address :
       (x : ℕ) → cellWindow c .start ≤ x → x < cellWindow c .start + cellWindow c .size →
-      FreeAddress length block x
+      FreeAddress words block x
   sound-address x l h =
       let w = cellWindow c in
       record {
-        ordinary = ordinary-address length w (f .inside) (f .fixed) x l h;
+        ordinary = ordinary-address words w (f .inside) (f .fixed) x l h;
         stack = nothing-shared (w .start) (w .size) (block .start) (block .size) (f .stack) x l h;
       }
 
   -- so every place is
-  pub sound-place : Sized (c .scheme) → (k : ℕ) → FreeAddress length block (placeOf (cellWindow c) k)
+  pub sound-place : Sized (c .scheme) → (k : ℕ) → FreeAddress words block (placeOf (cellWindow c) k)
   sound-place z k =
       sound-address (placeOf (cellWindow c) k) (place-from (cellWindow c) k)
       (place-below (cellWindow c) k (window-nonempty (c .scheme) (c .pointer) z))
 
   -- the stack's pointer may move in its block
-  pub sound-block : (other : Window) → SameRun other block → CellSound length other c
+  pub sound-block : (other : Window) → SameRun other block → CellSound words other c
   sound-block other e =
       record {
         pointer = f .pointer;

@@ -73,6 +73,6 @@ cellWindow c = windowOf (c .scheme) (c .pointer)
 -- "A cell is sound if its pointer and window lie in 0000-0FFF, a double pointer is a multiple of 32, and the window meets
 -- neither a fixed area nor the active stack."
 unfoldable pub soundCell : ℕ → Window → Cell → Bool
-soundCell length stack c =
-    ((ltb (c .pointer) length && fitsBelow (cellWindow c) length) && doubleFits (c .scheme) (c .pointer))
+soundCell words stack c =
+    ((ltb (c .pointer) words && fitsBelow (cellWindow c) words) && doubleFits (c .scheme) (c .pointer))
     && not (meetsFixed (cellWindow c) || windowsMeet (cellWindow c) stack)

@@ -125,12 +125,12 @@ fn double_fits(scheme: Scheme, pointer: u16) -> bool
     }
 }
 
-pub fn sound_cell(length: usize, stack: Window, c: Cell) -> bool
-    ensures { λ r. ⌜ r ≡ soundCell length stack c ⌝ }
+pub fn sound_cell(words: usize, stack: Window, c: Cell) -> bool
+    ensures { λ r. ⌜ r ≡ soundCell words stack c ⌝ }
 {
     let scheme = c.scheme;
     let w = window_of(scheme, c.pointer);
-    let inside = both((c.pointer as usize) < length, fits_below(w, length));
+    let inside = both((c.pointer as usize) < words, fits_below(w, words));
     let apart = no(either(meets_fixed(w), windows_meet(w, stack)));
     both(both(inside, double_fits(scheme, c.pointer)), apart)
 }

@@ -1,14 +1,14 @@
--- Words copied with the low byte first and then exchanged byte for byte: the words as the layout has them.
+-- Words copied with the low byte first and then swapped byte for byte: the words as the layout has them.
 use Prim.Native.Nat.{ℕ, _+_, _*_, _/_, _%_, _<_}
 use native.Mathlib.Omega.{arith}
 use mathlib.Core.Path.{_≡_, refl, sym, _∙_}
 use mathlib.Core.List.{List}
 use lib.ListN.{length, getD}
 use lib.Seq.{ext-getD}
-use Rattle.records.specs.Fill.{fill}
+use Rattle.words.specs.Fill.{fill}
 use Rattle.records.specs.Value.{zeroWords}
-use Rattle.records.proofs.Fill.{length-fill, fill-at, fill-later}
-use Rattle.layout.specs.Exchanged.{exchanged}
+use Rattle.words.proofs.Fill.{length-fill, fill-at, fill-later}
+use Rattle.layout.specs.Swapped.{swapped}
 use Rattle.layout.specs.Layout.{wordAt}
 
 -- a list that is filled in whole has nothing left of what it was
@@ -19,8 +19,8 @@ fill-anew f xs ys n p q =
     let l : k < n = omega (arith, length-fill 0 f xs n) in
     fill-at f xs n k (omega arith) l ∙ sym (fill-at f ys n k (omega arith) l))
 
-exchanged-pair : (h l : ℕ) → h < 256 → l < 256 → exchanged (l * 256 + h) ≡ h * 256 + l
-exchanged-pair h l a b = omega arith
+swapped-pair : (h l : ℕ) → h < 256 → l < 256 → swapped (l * 256 + h) ≡ h * 256 + l
+swapped-pair h l a b = omega arith
 
 -- word k of the bytes with the low byte first
 abbrev pub lowFirst : List ℕ → ℕ → ℕ
@@ -29,18 +29,18 @@ lowFirst s k = getD s (16 + 2 * k + 1) 0 * 256 + getD s (16 + 2 * k) 0
 abbrev pub highFirst : List ℕ → ℕ → ℕ
 highFirst s k = wordAt s (16 + 2 * k)
 
--- the next word, whose bytes are to be exchanged
-pub exchange-next :
+-- the next word, whose bytes are to be swapped
+pub swap-next :
     (s copied words : List ℕ) (i : ℕ) → copied ≡ fill (lowFirst s) zeroWords 32 → words ≡ fill (highFirst s) copied i →
     i < 32 → getD s (16 + 2 * i) 0 < 256 → getD s (16 + 2 * i + 1) 0 < 256 →
-    exchanged (getD words i 0) ≡ highFirst s i
-exchange-next s copied words i p q h a b =
+    swapped (getD words i 0) ≡ highFirst s i
+swap-next s copied words i p q h a b =
     let e : getD words i 0 ≡ lowFirst s i =
     rw q (fill-later (highFirst s) copied i i (omega arith) ∙ rw p (fill-at (lowFirst s) zeroWords 32 i (omega arith) h)) in
-    rw e (exchanged-pair (getD s (16 + 2 * i) 0) (getD s (16 + 2 * i + 1) 0) a b)
+    rw e (swapped-pair (getD s (16 + 2 * i) 0) (getD s (16 + 2 * i + 1) 0) a b)
 
-pub exchanged-all :
+pub swapped-all :
     (s copied : List ℕ) → copied ≡ fill (lowFirst s) zeroWords 32 →
     fill (highFirst s) copied 32 ≡ fill (highFirst s) zeroWords 32
-exchanged-all s copied p =
+swapped-all s copied p =
     fill-anew (highFirst s) copied zeroWords 32 (rw p (length-fill 0 (lowFirst s) zeroWords 32)) refl

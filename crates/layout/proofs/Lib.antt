@@ -1,4 +1,6 @@
-pub mod Exchanged
+pub mod Numbers
+pub mod Fields
+pub mod Swapped
 pub mod Turns
 pub mod Cases
 pub mod Places

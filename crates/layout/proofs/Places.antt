@@ -1,67 +1,17 @@
--- What stands at each place of a record's bytes and words: the definitions of Layout, Value and Writing, place by place.
-use Prim.Native.Nat.{ℕ, zero, suc, _+_, _*_, _/_, _%_, _<_, _≤_}
+-- What stands at each place of a record's bytes and words: the definitions of Layout and Value, place by place.
+use Prim.Native.Nat.{ℕ, zero, suc, _+_, _<_, _≤_}
 use native.Mathlib.Omega.{arith}
 use mathlib.Core.Path.{_≡_, refl}
 use mathlib.Core.Logic.{_↔_, ⊎-elim}
 use mathlib.Core.Bool.{true, false, _&&_, or-true}
 use mathlib.Core.List.{List}
-use lib.ListN.{length, getD, set, length-set}
-use lib.Seq.{getD-set-same, getD-set-other}
+use lib.ListN.{getD}
 use lib.Dec.{ltb, leb}
 use borrow.Author.Tests.{eq-eqb, eqb-true, lt-ltb, le-ltb, le-leb, leb-true, not-false}
 use Rattle.records.specs.declared.value.Record.{Record}
 use Rattle.records.specs.Value.{lastsZero, keepsLayout}
-use Rattle.layout.specs.Layout.{areZero, valueIn, breaksLayout}
-use Rattle.layout.specs.Writing.{putWords}
+use Rattle.layout.specs.Layout.{areZero, valueIn, gapsZero, breaksLayout}
 use Rattle.words.proofs.Basics.{lt-or-ge, eq-or-ne, and-left, and-right}
-
-pub length-put : (s words : List ℕ) (n : ℕ) → length (putWords s words n) ≡ length s
-unfolding putWords
-length-put s words zero = refl
-length-put s words (suc n) = simp length-set (length-put s words n)
-
--- a place that no word reaches
-pub put-before : (s words : List ℕ) (n k : ℕ) → k < 16 → getD (putWords s words n) k 0 ≡ getD s k 0
-unfolding putWords
-put-before s words zero k l = refl
-put-before s words (suc n) k l =
-    let p : (k ≡ 16 + 2 * n + 1 → ⊥) = λ e. omega arith in
-    let q : (k ≡ 16 + 2 * n → ⊥) = λ e. omega arith in
-    rw (getD-set-other, getD-set-other) (put-before s words n k l)
-
--- the high byte of word k
-pub put-high :
-    (s words : List ℕ) (n k : ℕ) → length s ≡ 80 → n ≤ 32 → k < n →
-    getD (putWords s words n) (16 + 2 * k) 0 ≡ getD words k 0 / 256 % 256
-unfolding putWords
-put-high s words zero k e h l = omega arith
-put-high s words (suc n) k e h l =
-    let o : (16 + 2 * k ≡ 16 + 2 * n + 1 → ⊥) = λ x. omega arith in
-    ⊎-elim
-    (λ same.
-    let p : 16 + 2 * n < length (putWords s words n) = omega (arith, length-put s words n) in
-    rw getD-set-other (rw same (getD-set-same (putWords s words n) (16 + 2 * n) _ 0 p)))
-    (λ ne.
-    let q : (16 + 2 * k ≡ 16 + 2 * n → ⊥) = λ x. ne (omega arith) in
-    rw (getD-set-other, getD-set-other) (put-high s words n k e (omega arith) (omega arith)))
-    (eq-or-ne k n)
-
--- the low byte of word k
-pub put-low :
-    (s words : List ℕ) (n k : ℕ) → length s ≡ 80 → n ≤ 32 → k < n →
-    getD (putWords s words n) (16 + 2 * k + 1) 0 ≡ getD words k 0 % 256
-unfolding putWords
-put-low s words zero k e h l = omega arith
-put-low s words (suc n) k e h l =
-    ⊎-elim
-    (λ same.
-    let p : 16 + 2 * n + 1 < length (set (putWords s words n) (16 + 2 * n) (getD words n 0 / 256 % 256)) = simp length-set (omega (arith, length-put s words n)) in
-    rw same (getD-set-same (set (putWords s words n) (16 + 2 * n) (getD words n 0 / 256 % 256)) (16 + 2 * n + 1) _ 0 p))
-    (λ ne.
-    let q : (16 + 2 * k + 1 ≡ 16 + 2 * n + 1 → ⊥) = λ x. ne (omega arith) in
-    let o : (16 + 2 * k + 1 ≡ 16 + 2 * n → ⊥) = λ x. omega arith in
-    rw (getD-set-other, getD-set-other) (put-low s words n k e (omega arith) (omega arith)))
-    (eq-or-ne k n)
 
 pub are-zero-at : (s : List ℕ) (from n k : ℕ) → areZero s from n ≡ true → k < n → getD s (from + k) 0 ≡ 0
 unfolding areZero
@@ -133,19 +83,16 @@ keeps-layout v = (lawful-of v, keeps-of v)
 
 -- the parts of a layout that is kept
 pub record Kept (s : List ℕ) : Type 0 where
-  pub gap : areZero s 2 2 ≡ true
-  pub gaps : areZero s 8 8 ≡ true
+  pub gaps : gapsZero s ≡ true
   pub value : keepsLayout (valueIn s) ≡ true
 
 pub layout-kept : (s : List ℕ) → breaksLayout s ≡ false → Kept s
 unfolding breaksLayout
 layout-kept s b =
-    let all = not-false ((areZero s 2 2 && areZero s 8 8) && keepsLayout (valueIn s)) b in
-    let zeros = and-left (areZero s 2 2 && areZero s 8 8) (keepsLayout (valueIn s)) all in
+    let all = not-false (gapsZero s && keepsLayout (valueIn s)) b in
     record {
-      gap = and-left (areZero s 2 2) (areZero s 8 8) zeros;
-      gaps = and-right (areZero s 2 2) (areZero s 8 8) zeros;
-      value = and-right (areZero s 2 2 && areZero s 8 8) (keepsLayout (valueIn s)) all;
+      gaps = and-left (gapsZero s) (keepsLayout (valueIn s)) all;
+      value = and-right (gapsZero s) (keepsLayout (valueIn s)) all;
     }
 
 -- the layout, rule by rule
@@ -158,8 +105,8 @@ laid-out-of : (s : List ℕ) → breaksLayout s ≡ false → LaidOut s
 laid-out-of s b =
     let g = layout-kept s b in
     record {
-      gap = λ k l. are-zero-at s 2 2 k (g .gap) l;
-      gaps = λ k l. are-zero-at s 8 8 k (g .gaps) l;
+      gap = λ k l. are-zero-at s 2 2 k (and-left (areZero s 2 2) (areZero s 8 8) (g .gaps)) l;
+      gaps = λ k l. are-zero-at s 8 8 k (and-right (areZero s 2 2) (areZero s 8 8) (g .gaps)) l;
       value = lawful-of (valueIn s) (g .value);
     }
 

@@ -14,7 +14,8 @@ use Rattle.layout.specs.Writing.{zeroBytes, writeRecord}
 use Rattle.layout.specs.RoundTrip.{readBack, writeBack}
 use Rattle.words.proofs.Basics.{yes-or-no}
 use Rattle.layout.proofs.Cases.{write-layout, write-good}
-use Rattle.layout.proofs.Inverse.{Typed, Bytes, read-after-write, write-after-read, reader-takes, writer-takes}
+use Rattle.layout.proofs.Numbers.{Bytes}
+use Rattle.layout.proofs.Inverse.{Typed, read-after-write, write-after-read, reader-takes, writer-takes}
 
 -- the number that the reader answers is its refusal
 read-number : (s : List ℕ) → readRecord s .number ≡ readerRefusal s

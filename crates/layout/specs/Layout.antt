@@ -6,13 +6,15 @@ use lib.ListN.{length, getD}
 use lib.Dec.{eqb}
 use Rattle.records.specs.declared.value.Record.{Record}
 use Rattle.layout.specs.declared.reader.Reading.{Reading}
-use Rattle.records.specs.Fill.{fill}
+use Rattle.words.specs.Fill.{fill}
 use Rattle.records.specs.Value.{zeroWords, zeroValue, keepsLayout}
-use Rattle.words.specs.Refusal.{firstOf}
+use Rattle.words.specs.Number.{recordLength, recordLayout}
+use Rattle.words.specs.Refusal.{_when_, firstOf}
+use Rattle.layout.specs.Fields.{numberAt}
 
--- "numbers high byte first": the word whose high byte is byte i
+-- the word whose high byte is byte i
 abbrev pub wordAt : List ℕ → ℕ → ℕ
-wordAt s i = getD s i 0 * 256 + getD s (i + 1) 0
+wordAt s i = numberAt s i 2
 
 -- the n bytes from `from` on are zero
 unfoldable pub areZero : List ℕ → ℕ → ℕ → Bool
@@ -23,14 +25,18 @@ areZero s from (suc n) = areZero s from n && eqb (getD s (from + n) 0) 0
 unfoldable pub wordsIn : List ℕ → List ℕ
 wordsIn s = fill (λ k. wordAt s (16 + 2 * k)) zeroWords 32
 
--- "Bytes 0-1 command; .. 4-5 time tag; 6 flags; 7 count; .. 16-79 thirty-two words."
+-- "Bytes 0-1 command; .. 4-5 time tag; 6 flags ..; 7 count; .. 16-79 thirty-two words."
 unfoldable pub valueIn : List ℕ → Record
 valueIn s =
     record { command = wordAt s 0; tag = wordAt s 4; flags = getD s 6 0; count = getD s 7 0; words = wordsIn s }
 
--- "2-3 zero; .. 8-15 zero", and the rules of the value
+-- "2-3 zero; .. 8-15 zero"
+abbrev pub gapsZero : List ℕ → Bool
+gapsZero s = areZero s 2 2 && areZero s 8 8
+
+-- a gap that is not zero, or a value that breaks its rules
 unfoldable pub breaksLayout : List ℕ → Bool
-breaksLayout s = not ((areZero s 2 2 && areZero s 8 8) && keepsLayout (valueIn s))
+breaksLayout s = not (gapsZero s && keepsLayout (valueIn s))
 
 -- "record is not 80 bytes"
 abbrev pub wrongLength : List ℕ → Bool
@@ -42,7 +48,7 @@ notRead n = record { number = n; value = zeroValue }
 
 -- the reader's tests, in the table's order
 unfoldable pub readerRefusal : List ℕ → ℕ
-readerRefusal s = firstOf (record { number = 4; holds = wrongLength s } ∷ record { number = 5; holds = breaksLayout s } ∷ [])
+readerRefusal s = firstOf (recordLength when wrongLength s ∷ recordLayout when breaksLayout s ∷ [])
 
 -- "Result: the number, the rest zero"
 unfoldable pub readRecord : List ℕ → Reading

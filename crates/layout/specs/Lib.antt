@@ -1,4 +1,5 @@
-pub mod Exchanged
+pub mod Swapped
+pub mod Fields
 pub mod Layout
 pub mod Writing
 pub mod RoundTrip

@@ -1,38 +1,53 @@
 -- What writing a record value gives.
-use Prim.Native.Nat.{ℕ, zero, suc, _+_, _*_, _/_, _%_}
+use Prim.Native.Nat.{ℕ, zero, suc, _+_, _*_}
 use mathlib.Core.Bool.{not, cond}
-use mathlib.Core.List.{List, [], _∷_}
-use lib.ListN.{getD, set, replicate}
+use mathlib.Core.List.{List, [], _∷_, _++_}
+use lib.ListN.{getD, replicate}
 use lib.Dec.{eqb}
 use Rattle.records.specs.declared.value.Record.{Record}
 use Rattle.layout.specs.declared.writer.Written.{Written}
 use Rattle.records.specs.Value.{keepsLayout}
-use Rattle.words.specs.Refusal.{firstOf}
+use Rattle.words.specs.Number.{recordLayout}
+use Rattle.words.specs.Refusal.{_when_, firstOf}
+use Rattle.layout.specs.Fields.{Field, putFields}
 
 -- "The writer starts from 80 zero bytes."
 abbrev pub zeroBytes : List ℕ
 zeroBytes = replicate 80 0
 
--- w at bytes i and i + 1, "high byte first"
-abbrev pub putWord : List ℕ → ℕ → ℕ → List ℕ
-putWord s i w = set (set s i (w / 256 % 256)) (i + 1) (w % 256)
+-- "Bytes 0-1 command; 2-3 zero; 4-5 time tag; 6 flags ..; 7 count; 8-15 zero"
+unfoldable pub headerFields : Record → List Field
+headerFields v =
+    record { place = 0; width = 2; value = v .command }
+    ∷ record { place = 2; width = 2; value = 0 }
+    ∷ record { place = 4; width = 2; value = v .tag }
+    ∷ record { place = 6; width = 1; value = v .flags }
+    ∷ record { place = 7; width = 1; value = v .count }
+    ∷ record { place = 8; width = 8; value = 0 }
+    ∷ []
 
--- bytes 0-1 command, 4-5 time tag, 6 flags, 7 count
+-- "16-79 thirty-two words": the first n of them
+unfoldable pub wordFields : List ℕ → ℕ → List Field
+wordFields words zero = []
+wordFields words (suc n) = wordFields words n ++ (record { place = 16 + 2 * n; width = 2; value = getD words n 0 } ∷ [])
+
+unfoldable pub fieldsOf : Record → List Field
+fieldsOf v = headerFields v ++ wordFields (v .words) 32
+
+-- the writer's two steps: the header, and the first n words
 unfoldable pub headerOf : Record → List ℕ
-headerOf v = set (set (putWord (putWord zeroBytes 0 (v .command)) 4 (v .tag)) 6 (v .flags)) 7 (v .count)
+headerOf v = putFields (headerFields v) zeroBytes
 
--- bytes 16-79: the first n of the words
-unfoldable pub putWords : List ℕ → List ℕ → ℕ → List ℕ
-putWords s words zero = s
-putWords s words (suc n) = putWord (putWords s words n) (16 + 2 * n) (getD words n 0)
+abbrev pub putWords : List ℕ → List ℕ → ℕ → List ℕ
+putWords s words n = putFields (wordFields words n) s
 
--- "A message record has 80 bytes": the header and the thirty-two words
+-- "A message record has 80 bytes": every field, put into zero bytes
 unfoldable pub bytesOf : Record → List ℕ
-bytesOf v = putWords (headerOf v) (v .words) 32
+bytesOf v = putFields (fieldsOf v) zeroBytes
 
 -- "It refuses a record value that breaks these rules." "5: record breaks its layout (also the writer's answer)"
 unfoldable pub writerRefusal : Record → ℕ
-writerRefusal v = firstOf (record { number = 5; holds = not (keepsLayout v) } ∷ [])
+writerRefusal v = firstOf (recordLayout when not (keepsLayout v) ∷ [])
 
 -- "Result: the number, the rest zero"
 unfoldable pub writeRecord : Record → Written

@@ -2,15 +2,17 @@
 ghost use mathlib.Core.Path.{_≡_};
 ghost use Prim.Native.Nat.{_+_, _*_, _/_, _%_, _≤_};
 ghost use lib.ListN.{length, getD};
-ghost use Rattle.layout.specs.Layout.{wordAt, areZero, wordsIn, valueIn, breaksLayout, readRecord, notRead};
-ghost use Rattle.layout.specs.Exchanged.{exchanged};
-ghost use Rattle.records.specs.Fill.{fill};
+ghost use Rattle.layout.specs.Layout.{wordAt, areZero, wordsIn, valueIn, gapsZero, breaksLayout, readRecord, notRead};
+ghost use Rattle.layout.specs.Swapped.{swapped};
+ghost use Rattle.words.specs.Fill.{fill};
 ghost use Rattle.records.specs.Value.{zeroWords};
 use records::value::Record;
 use records::value::keeps_layout;
 use records::value::zero_value;
 use words::choose::both;
 use words::choose::no;
+use words::number::RECORD_LAYOUT;
+use words::number::RECORD_LENGTH;
 
 // What reading gives: the number, and the value where it is 0.
 pub struct Reading {
@@ -60,13 +62,13 @@ fn copied_words(s: &[u8]) -> [u16; 32]
     words
 }
 
-pub(crate) fn exchange_bytes(w: u16) -> u16
-    ensures { λ r. ⌜ r ≡ exchanged w ⌝ }
+pub(crate) fn swap_bytes(w: u16) -> u16
+    ensures { λ r. ⌜ r ≡ swapped w ⌝ }
 {
     w % 256 * 256 + w / 256 % 256
 }
 
-// Copied first, so that the bytes are exchanged in eight words at a time. Joined from two bytes each, they come one by one.
+// Copied first, so that the bytes are swapped in eight words at a time. Joined from two bytes each, they come one by one.
 fn words_in(s: &[u8]) -> [u16; 32]
     requires { ⌜ length (now s) ≡ 80 ⌝ }
     ensures { λ r. ⌜ r ≡ wordsIn (now (s .entry)) ⌝ }
@@ -74,7 +76,7 @@ fn words_in(s: &[u8]) -> [u16; 32]
     let mut words = copied_words(s);
     let mut i: usize = 0;
     while i < 32 {
-        words[i] = exchange_bytes(words[i]);
+        words[i] = swap_bytes(words[i]);
         i += 1;
     }
     words
@@ -94,11 +96,18 @@ fn value_in(s: &[u8]) -> Record
     }
 }
 
+fn gaps_zero(s: &[u8]) -> bool
+    requires { ⌜ length (now s) ≡ 80 ⌝ }
+    ensures { λ r. ⌜ r ≡ gapsZero (now (s .entry)) ⌝ }
+{
+    both(are_zero(s, 2, 2), are_zero(s, 8, 8))
+}
+
 fn breaks_layout(s: &[u8], v: Record) -> bool
     requires { ⌜ (length (now s) ≡ 80) × (v ≡ valueIn (now s)) ⌝ }
     ensures { λ r. ⌜ r ≡ breaksLayout (now (s .entry)) ⌝ }
 {
-    no(both(both(are_zero(s, 2, 2), are_zero(s, 8, 8)), keeps_layout(v)))
+    no(both(gaps_zero(s), keeps_layout(v)))
 }
 
 fn not_read(number: u16) -> Reading
@@ -112,11 +121,11 @@ pub fn read(s: &[u8]) -> Reading
     ensures { λ r. ⌜ r ≡ readRecord (now (s .entry)) ⌝ }
 {
     if s.len() != 80 {
-        return not_read(4);
+        return not_read(RECORD_LENGTH);
     }
     let v = value_in(s);
     if breaks_layout(s, v) {
-        return not_read(5);
+        return not_read(RECORD_LAYOUT);
     }
     Reading {
         number: 0,

@@ -1,10 +1,11 @@
 // The record writer: a value to 80 bytes, or refusal 5.
 ghost use mathlib.Core.Path.{_≡_};
-ghost use Rattle.layout.specs.Exchanged.{allExchanged};
+ghost use Rattle.layout.specs.Swapped.{allSwapped};
 ghost use Rattle.layout.specs.Writing.{headerOf, putWords, writeRecord};
-use crate::reader::exchange_bytes;
+use crate::reader::swap_bytes;
 use records::value::Record;
 use records::value::keeps_layout;
+use words::number::RECORD_LAYOUT;
 
 // What writing gives: the number, and the bytes where it is 0.
 pub struct Written {
@@ -25,27 +26,27 @@ fn header_of(v: Record) -> [u8; 80]
     bytes
 }
 
-fn exchanged_words(words: [u16; 32]) -> [u16; 32]
-    ensures { λ r. ⌜ r ≡ allExchanged words ⌝ }
+fn swapped_words(words: [u16; 32]) -> [u16; 32]
+    ensures { λ r. ⌜ r ≡ allSwapped words ⌝ }
 {
-    let mut turned = words;
+    let mut swapped = words;
     let mut i: usize = 0;
     while i < 32 {
-        turned[i] = exchange_bytes(words[i]);
+        swapped[i] = swap_bytes(words[i]);
         i += 1;
     }
-    turned
+    swapped
 }
 
 // What is put with the low byte first is a copy to the compiler.
-fn put_low_first(header: [u8; 80], turned: [u16; 32]) -> [u8; 80]
-    ensures { λ r. ⌜ r ≡ putWords header (allExchanged turned) 32 ⌝ }
+fn put_low_first(header: [u8; 80], swapped: [u16; 32]) -> [u8; 80]
+    ensures { λ r. ⌜ r ≡ putWords header (allSwapped swapped) 32 ⌝ }
 {
     let mut bytes = header;
     let mut i: usize = 0;
     while i < 32 {
-        bytes[16 + 2 * i] = (turned[i] % 256) as u8;
-        bytes[16 + 2 * i + 1] = (turned[i] / 256 % 256) as u8;
+        bytes[16 + 2 * i] = (swapped[i] % 256) as u8;
+        bytes[16 + 2 * i + 1] = (swapped[i] / 256 % 256) as u8;
         i += 1;
     }
     bytes
@@ -54,7 +55,7 @@ fn put_low_first(header: [u8; 80], turned: [u16; 32]) -> [u8; 80]
 fn put_words(header: [u8; 80], words: [u16; 32]) -> [u8; 80]
     ensures { λ r. ⌜ r ≡ putWords header words 32 ⌝ }
 {
-    put_low_first(header, exchanged_words(words))
+    put_low_first(header, swapped_words(words))
 }
 
 pub fn write(v: Record) -> Written
@@ -66,7 +67,7 @@ pub fn write(v: Record) -> Written
         Written { number: 0, bytes }
     } else {
         Written {
-            number: 5,
+            number: RECORD_LAYOUT,
             bytes: [0; 80],
         }
     }

@@ -18,9 +18,6 @@ kind-of-settled κs a x y v w p q = (determined p q, refl)
 pub ram-refused-settled : Settled 0 map.ram_refused.Kinds.ps map.ram_refused.Kinds.r map.ram_refused.Reads.Post
 ram-refused-settled κs a x y v w p q = (determined p q, refl)
 
-pub bit-of-settled : Settled 0 map.bit_of.Kinds.ps map.bit_of.Kinds.r map.bit_of.Reads.Post
-bit-of-settled κs a x y v w p q = (determined (p .0) (q .0), refl)
-
 pub stack-pointer-place-settled : Settled 0 map.stack_pointer_place.Kinds.ps map.stack_pointer_place.Kinds.r map.stack_pointer_place.Reads.Post
 stack-pointer-place-settled κs a x y v w p q = (determined p q, refl)
 

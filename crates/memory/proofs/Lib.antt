@@ -1,4 +1,6 @@
-pub mod Bits
 pub mod Places
 pub mod Numbers
+pub mod Writes
+pub mod Footprint
+pub mod Alike
 pub mod Determined

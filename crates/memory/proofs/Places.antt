@@ -12,7 +12,7 @@ use Rattle.memory.specs.declared.kind.Kind.{Kind}
 use Rattle.memory.specs.declared.kind.Kind.the-variants.{Receive, Transmit, Broadcast}
 use Rattle.memory.specs.Map.{ramRefused, stackPointerPlace, lookupTable, lookupPlace, controlPlace, busyPlace, illegalPlace}
 use Rattle.memory.specs.Kind.{kindNumber}
-use Rattle.memory.proofs.Bits.{bit-small}
+use Rattle.words.proofs.BitLaws.{bit-small}
 
 pub record Between (low high x : ℕ) : Type 0 where
   pub from : low ≤ x
@@ -70,20 +70,20 @@ pub control-not-stack-pointer :
 control-not-stack-pointer area sub e = omega (arith, table-between area, stack-pointer-between area)
 
 -- RAM of an accepted length has all the fixed areas, and a 16-bit word holds each of its addresses
-pub ram-between : (length : ℕ) → ramRefused length ≡ false → (0x400 ≤ length) × (length ≤ 65536)
+pub ram-between : (words : ℕ) → ramRefused words ≡ false → (0x400 ≤ words) × (words ≤ 65536)
 unfolding ramRefused
-ram-between length e =
-    let q = eqb-true length 4096 (not-false (eqb length 4096) e) in
+ram-between words e =
+    let q = eqb-true words 4096 (not-false (eqb words 4096) e) in
     (omega arith, omega arith)
 
 -- an address that is in RAM and in no fixed area
-pub record OrdinaryAddress (length x : ℕ) : Type 0 where
-  pub inside : x < length
+pub record OrdinaryAddress (words x : ℕ) : Type 0 where
+  pub inside : x < words
   pub tables : 0x100 ≤ x → x < 0x248 → ⊥
   pub illegal : 0x300 ≤ x → x < 0x400 → ⊥
 
 -- no ordinary address is a place of the map
-module _ (length x : ℕ) (f : OrdinaryAddress length x) where
+module _ (words x : ℕ) (f : OrdinaryAddress words x) where
   not-tables : (p : ℕ) → 0x100 ≤ p → p ≤ 0x247 → p ≡ x → ⊥
   not-tables p l h e = f .tables (omega arith) (omega arith)
 

@@ -1,2 +1,4 @@
 pub mod Map
 pub mod Kind
+pub mod Writes
+pub mod State

@@ -1,16 +1,17 @@
 -- The memory map (document 01, "Memory map (hexadecimal)").
 use Prim.Native.Nat.{ℕ, _+_, _*_, _/_, _%_, _^_}
-use mathlib.Core.Bool.{Bool, true, false, not}
+use mathlib.Core.Bool.{Bool, not}
 use mathlib.Core.List.{List}
 use lib.ListN.{getD}
 use lib.Dec.{eqb}
 use Rattle.words.specs.declared.settings.Area.{Area}
 use Rattle.words.specs.declared.settings.Area.the-variants.{A, B}
+use Rattle.words.specs.Bits.{bitOf}
 use Rattle.words.specs.Command.{transmits, subaddressOf, countField}
 
 -- refusal 1: "RAM is not 4,096 words". No other rule names the RAM's length.
 unfoldable pub ramRefused : ℕ → Bool
-ramRefused length = not (eqb length 4096)
+ramRefused words = not (eqb words 4096)
 
 -- "0100 / 0104: stack pointer, area A / B"
 unfoldable pub stackPointerPlace : Area → ℕ
@@ -29,11 +30,6 @@ lookupPlace area cell = lookupTable area + cell
 -- ".. 32 subaddress control words"
 abbrev pub controlPlace : Area → ℕ → ℕ
 controlPlace area sub = lookupTable area + 96 + sub
-
--- a yes or no as a factor in a place: 1 or 0
-abbrev pub bitOf : Bool → ℕ
-bitOf true = 1
-bitOf false = 0
 
 -- "Bit 1 means busy or illegal."
 abbrev pub bitSet : ℕ → ℕ → Bool

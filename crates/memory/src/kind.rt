@@ -23,7 +23,7 @@ pub fn kind_number(kind: Kind) -> u16
     }
 }
 
-// Of u16 width for any subaddress that a command can name.
+// The number fits a u16 for every subaddress that a command can name, and a usize for any other.
 pub fn cell_number(kind: Kind, subaddress: u16) -> usize
     ensures { λ r. ⌜ r ≡ cellNumber kind subaddress ⌝ }
 {

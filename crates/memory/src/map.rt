@@ -1,15 +1,16 @@
 // The memory map: where the terminal's own words stand in RAM.
 ghost use mathlib.Core.Path.{_≡_};
-ghost use Prim.Native.Nat.{_<_, _≤_};
-ghost use Rattle.memory.specs.Map.{ramRefused, stackPointerPlace, lookupTable, controlPlace, busyPlace, illegalPlace, bitOf, bitSet, isBusyAt, isIllegalAt};
+ghost use Prim.Native.Nat.{_<_};
+ghost use Rattle.memory.specs.Map.{ramRefused, stackPointerPlace, lookupTable, controlPlace, busyPlace, illegalPlace, bitSet, isBusyAt, isIllegalAt};
 use crate::ram::word_at;
+use words::bits::bit_of;
 use words::command;
 use words::settings::Area;
 
-pub fn ram_refused(length: usize) -> bool
-    ensures { λ r. ⌜ r ≡ ramRefused length ⌝ }
+pub fn ram_refused(words: usize) -> bool
+    ensures { λ r. ⌜ r ≡ ramRefused words ⌝ }
 {
-    length != 4096
+    words != 4096
 }
 
 pub fn stack_pointer_place(area: Area) -> usize
@@ -28,12 +29,6 @@ pub fn lookup_table(area: Area) -> usize
         Area::A => 0x140,
         Area::B => 0x1C0,
     }
-}
-
-pub fn bit_of(b: bool) -> u16
-    ensures { λ r. ⌜ (r ≡ bitOf b) × (r ≤ 1) ⌝ }
-{
-    if b { 1 } else { 0 }
 }
 
 pub fn control_place(area: Area, subaddress: u16) -> usize

@@ -1,2 +1,3 @@
-// The bottom layer: the record value, its flags and the rules that it keeps. Document 01, "Words, records, settings".
+// The bottom layer: the record value, its flags, the rules that it keeps, and its faults. Document 01, "Words, records, settings".
+pub mod fault;
 pub mod value;

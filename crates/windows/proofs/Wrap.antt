@@ -128,7 +128,7 @@ aligned-same p n q l h =
     let e = aligned-inside p n q l h in
     record { start = ap (λ (w : Window). w .start) e; size = aligned-size q n ∙ sym (aligned-size p n) }
 
--- "Single .. The window is the 32 words from the pointer": no place below its size wraps
+-- "single. The window is the 32 words from the pointer": no place below its size wraps
 pub place-single : (p n k : ℕ) → k < n → placeOf (runFrom p n) k ≡ p + k
 unfolding placeOf runFrom
 place-single p n k h =

@@ -33,4 +33,4 @@ meetsFixed w = meets (w .start) (w .size) 0x100 0x148 || meets (w .start) (w .si
 
 -- the window lies in RAM of this length
 abbrev pub fitsBelow : Window → ℕ → Bool
-fitsBelow w length = leb (w .start + w .size) length
+fitsBelow w words = leb (w .start + w .size) words

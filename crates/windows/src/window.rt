@@ -12,7 +12,8 @@ pub struct Window {
     pub offset: u16,
 }
 
-// The remainder; x itself where n is 0, as in the definitions. A place passes a window's end once at most, so no division is made.
+// The remainder; x itself where n is 0, as in the definitions. A place passes a window's end once at most: the first two cases
+// are all that a sound message meets, and need no division.
 fn remainder(x: usize, n: usize) -> usize
     ensures { λ r. ⌜ r ≡ x % n ⌝ }
 {
@@ -102,8 +103,8 @@ pub fn meets_fixed(w: Window) -> bool
 }
 
 // Whether a window lies in RAM of this length.
-pub fn fits_below(w: Window, length: usize) -> bool
-    ensures { λ r. ⌜ r ≡ fitsBelow w length ⌝ }
+pub fn fits_below(w: Window, words: usize) -> bool
+    ensures { λ r. ⌜ r ≡ fitsBelow w words ⌝ }
 {
-    (w.start as usize) + (w.size as usize) <= length
+    (w.start as usize) + (w.size as usize) <= words
 }

@@ -4,7 +4,8 @@ use mathlib.Core.Path.{refl}
 use Rattle.words.proofs.Settled.{determined, Settled}
 use Rattle.words.proofs.choose
 use Rattle.words.proofs.command
-use Rattle.words.proofs.refusal
+use Rattle.words.proofs.bits
+use Rattle.words.proofs.remembered
 use Rattle.words.proofs.settings
 
 pub both-settled : Settled 0 choose.both.Kinds.ps choose.both.Kinds.r choose.both.Reads.Post
@@ -18,6 +19,9 @@ no-settled κs a x y v w p q = (determined p q, refl)
 
 pub pick-settled : Settled 0 choose.pick.Kinds.ps choose.pick.Kinds.r choose.pick.Reads.Post
 pick-settled κs a x y v w p q = (determined p q, refl)
+
+pub smaller-settled : Settled 0 choose.smaller.Kinds.ps choose.smaller.Kinds.r choose.smaller.Reads.Post
+smaller-settled κs a x y v w p q = (determined p q, refl)
 
 pub address-settled : Settled 0 command.address.Kinds.ps command.address.Kinds.r command.address.Reads.Post
 address-settled κs a x y v w p q = (determined p q, refl)
@@ -37,10 +41,7 @@ word-count-settled κs a x y v w p q = (determined p q, refl)
 pub mode-subaddress-settled : Settled 0 command.mode_subaddress.Kinds.ps command.mode_subaddress.Kinds.r command.mode_subaddress.Reads.Post
 mode-subaddress-settled κs a x y v w p q = (determined p q, refl)
 
-pub first-refusal-settled : Settled 0 refusal.first_refusal.Kinds.ps refusal.first_refusal.Kinds.r refusal.first_refusal.Reads.Post
-first-refusal-settled κs a x y v w p q = (determined p q, refl)
-
-pub nothing-remembered-settled : Settled 0 settings.nothing_remembered.Kinds.ps settings.nothing_remembered.Kinds.r settings.nothing_remembered.Reads.Post
+pub nothing-remembered-settled : Settled 0 remembered.nothing_remembered.Kinds.ps remembered.nothing_remembered.Kinds.r remembered.nothing_remembered.Reads.Post
 nothing-remembered-settled κs a x y v w p q = (determined p q, refl)
 
 pub settings-refused-settled : Settled 0 settings.settings_refused.Kinds.ps settings.settings_refused.Kinds.r settings.settings_refused.Reads.Post
@@ -54,3 +55,12 @@ is-broadcast-settled κs a x y v w p q = (determined p q, refl)
 
 pub is-not-ours-settled : Settled 0 settings.is_not_ours.Kinds.ps settings.is_not_ours.Kinds.r settings.is_not_ours.Reads.Post
 is-not-ours-settled κs a x y v w p q = (determined p q, refl)
+
+pub bit-of-settled : Settled 0 bits.bit_of.Kinds.ps bits.bit_of.Kinds.r bits.bit_of.Reads.Post
+bit-of-settled κs a x y v w p q = (determined (p .0) (q .0), refl)
+
+pub word-of-settled : Settled 0 bits.word_of.Kinds.ps bits.word_of.Kinds.r bits.word_of.Reads.Post
+word-of-settled κs a x y v w p q = (determined p q, refl)
+
+pub program-settings-settled : Settled 0 settings.program_settings.Kinds.ps settings.program_settings.Kinds.r settings.program_settings.Reads.Post
+program-settings-settled κs a x y v w p q = (determined p q, refl)

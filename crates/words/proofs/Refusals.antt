@@ -1,21 +1,33 @@
--- The order of refusals: when no number refuses, and when a number is the first that does. Every entry point's answer rests on
--- these laws: "0 is done. No other case is refused."
+-- The order of refusals: when no number refuses, and when a number is the first that does. The numbers of messages, check and
+-- label rest on these laws: "0 is done. No other case is refused."
 use Prim.Native.Nat.{ℕ, _≤_}
 use native.Mathlib.Omega.{arith}
 use mathlib.Core.Path.{_≡_, refl, sym, ap, _∙_}
 use mathlib.Core.Logic.{_↔_, ⊎-elim}
-use mathlib.Core.Bool.{true, false}
+use mathlib.Core.Bool.{Bool, true, false, cond, _&&_}
 use mathlib.Core.List.{List, [], _∷_, _++_}
-use Rattle.words.specs.declared.refusal.Grounds.{Grounds}
-use Rattle.words.proofs.Basics.{yes-or-no}
-use Rattle.words.specs.Refusal.{Test, firstOf, inOrder, firstRefusal}
+use lib.Dec.{ltb, leb, eqb}
+use borrow.Author.Tests.{ltb-true, leb-true, eq-eqb, ne-eqb}
+use Rattle.words.proofs.Basics.{yes-or-no, and-left, and-right}
+use Rattle.words.specs.Refusal.{Test, firstOf}
 
 -- ---- any list of tests
 
--- 0 is done, so it is no test's number
-abbrev pub Numbered : List Test → Type 0
-Numbered [] = Unit {0}
-Numbered (t ∷ ts) = (t .number ≡ 0 → ⊥) × Numbered ts
+-- "0 is done", so it is no test's number: computed, since the numbers of a list of tests are written out
+abbrev pub numbered : List Test → Bool
+numbered [] = true
+numbered (t ∷ ts) = ltb 0 (t .number) && numbered ts
+
+-- whether the first test of this number holds; no, where there is none
+abbrev pub held : ℕ → List Test → Bool
+held n [] = false
+held n (t ∷ ts) = cond (eqb n (t .number)) (t .holds) (held n ts)
+
+not-zero : (t : Test) (ts : List Test) → numbered (t ∷ ts) ≡ true → t .number ≡ 0 → ⊥
+not-zero t ts m e = let l = ltb-true 0 (t .number) (and-left (ltb 0 (t .number)) (numbered ts) m) in omega arith
+
+rest-numbered : (t : Test) (ts : List Test) → numbered (t ∷ ts) ≡ true → numbered ts ≡ true
+rest-numbered t ts m = and-right (ltb 0 (t .number)) (numbered ts) m
 
 abbrev pub NoneHolds : List Test → Type 0
 NoneHolds [] = Unit {0}
@@ -28,14 +40,23 @@ pub record First (ts : List Test) (n : ℕ) : Type 0 where
   pub splits : ts ≡ before ++ (record { number = n; holds = true } ∷ after)
   pub none : NoneHolds before
 
-none-holds : (ts : List Test) → Numbered ts → firstOf ts ≡ 0 → NoneHolds ts
+none-holds : (ts : List Test) → numbered ts ≡ true → firstOf ts ≡ 0 → NoneHolds ts
 unfolding firstOf
 none-holds [] m e = tt
 none-holds (t ∷ ts) m e =
     ⊎-elim
-    (λ held. absurd (m .0 (rw held at e)))
-    (λ fails. (fails, none-holds ts (m .1) (rw fails at e)))
+    (λ it. absurd (not-zero t ts m (rw it at e)))
+    (λ fails. (fails, none-holds ts (rest-numbered t ts m) (rw fails at e)))
     (yes-or-no (t .holds))
+
+none-held : (ts : List Test) → NoneHolds ts → (n : ℕ) → held n ts ≡ false
+none-held [] h n = refl
+none-held (t ∷ ts) h n =
+    ⊎-elim (λ it. rw it (h .0)) (λ other. rw other (none-held ts (h .1) n)) (yes-or-no (eqb n (t .number)))
+
+-- where nothing refuses, the test of each number does not hold
+pub accepted : (ts : List Test) → numbered ts ≡ true → firstOf ts ≡ 0 → (n : ℕ) → held n ts ≡ false
+accepted ts m e = none-held ts (none-holds ts m e)
 
 zero-of : (ts : List Test) → NoneHolds ts → firstOf ts ≡ 0
 unfolding firstOf
@@ -43,7 +64,7 @@ zero-of [] h = refl
 zero-of (t ∷ ts) h = rw (h .0) (zero-of ts (h .1))
 
 -- the answer is 0 exactly when no test holds
-pub first-zero : (ts : List Test) → Numbered ts → (firstOf ts ≡ 0) ↔ NoneHolds ts
+pub first-zero : (ts : List Test) → numbered ts ≡ true → (firstOf ts ≡ 0) ↔ NoneHolds ts
 first-zero ts m = (none-holds ts m, zero-of ts)
 
 one-more : (t : Test) (ts : List Test) (n : ℕ) → t .holds ≡ false → First ts n → First (t ∷ ts) n
@@ -71,70 +92,39 @@ pub first-number : (ts : List Test) (n : ℕ) → (n ≡ 0 → ⊥) → (firstOf
 first-number ts n m =
     (first-of ts n m, λ f. ap firstOf (f .splits) ∙ after-none (f .before) (f .after) n (f .none))
 
-abbrev pub AtMost : ℕ → List Test → Type 0
-AtMost n [] = Unit {0}
-AtMost n (t ∷ ts) = (t .number ≤ n) × AtMost n ts
+-- one test more in front of a list that is split
+one-in-front :
+    (it : Bool) (n own all others : ℕ) → (n ≡ 0 → ⊥) →
+    all ≡ cond (eqb own 0) others own →
+    cond it n all ≡ cond (eqb (cond it n own) 0) others (cond it n own)
+one-in-front true n own all others m e = rw (ne-eqb n 0 m)
+one-in-front false n own all others m e = e
 
-pub first-at-most : (n : ℕ) (ts : List Test) → AtMost n ts → firstOf ts ≤ n
+-- what stands behind a list of tests counts only where none of them holds
+first-then :
+    (ts us : List Test) → numbered ts ≡ true → firstOf (ts ++ us) ≡ cond (eqb (firstOf ts) 0) (firstOf us) (firstOf ts)
+unfolding firstOf
+first-then [] us m = refl
+first-then (t ∷ ts) us m =
+    one-in-front (t .holds) (t .number) (firstOf ts) (firstOf (ts ++ us)) (firstOf us) (not-zero t ts m)
+    (first-then ts us (rest-numbered t ts m))
+
+-- a number that the first tests give is the answer
+pub first-stops : (ts us : List Test) → numbered ts ≡ true → (firstOf ts ≡ 0 → ⊥) → firstOf (ts ++ us) ≡ firstOf ts
+first-stops ts us m h = rw (first-then ts us m, ne-eqb (firstOf ts) 0 h)
+
+-- and where they give none, the others decide
+pub first-passes : (ts us : List Test) → numbered ts ≡ true → firstOf ts ≡ 0 → firstOf (ts ++ us) ≡ firstOf us
+first-passes ts us m e = rw (first-then ts us m, eq-eqb (firstOf ts) 0 e)
+
+-- no number is over n: computed too
+abbrev pub atMost : ℕ → List Test → Bool
+atMost n [] = true
+atMost n (t ∷ ts) = leb (t .number) n && atMost n ts
+
+pub first-at-most : (n : ℕ) (ts : List Test) → atMost n ts ≡ true → firstOf ts ≤ n
 unfolding firstOf
 first-at-most n [] h = omega arith
 first-at-most n (t ∷ ts) h =
-    ⊎-elim (λ held. rw held (h .0)) (λ fails. rw fails (first-at-most n ts (h .1))) (yes-or-no (t .holds))
-
--- ---- the table "Numbers that refuse"
-
-pub table-numbered : (g : Grounds) → Numbered (inOrder g)
-unfolding inOrder
-table-numbered g =
-    (λ e. omega arith, (λ e. omega arith, (λ e. omega arith, (λ e. omega arith, (λ e. omega arith, (λ e. omega arith, (λ e. omega arith, (λ e. omega arith, (λ e. omega arith, tt)))))))))
-
--- no case of the table holds
-pub record Accepted (g : Grounds) : Type 0 where
-  pub ram : g .ram ≡ false
-  pub reply : g .reply ≡ false
-  pub settings : g .settings ≡ false
-  pub length : g .length ≡ false
-  pub layout : g .layout ≡ false
-  pub address : g .address ≡ false
-  pub subaddress : g .subaddress ≡ false
-  pub stack : g .stack ≡ false
-  pub cell : g .cell ≡ false
-
-accepted-of : (g : Grounds) → NoneHolds (inOrder g) → Accepted g
-unfolding inOrder
-accepted-of g h =
-    record {
-      ram = h .0;
-      reply = h .1 .0;
-      settings = h .1 .1 .0;
-      length = h .1 .1 .1 .0;
-      layout = h .1 .1 .1 .1 .0;
-      address = h .1 .1 .1 .1 .1 .0;
-      subaddress = h .1 .1 .1 .1 .1 .1 .0;
-      stack = h .1 .1 .1 .1 .1 .1 .1 .0;
-      cell = h .1 .1 .1 .1 .1 .1 .1 .1 .0;
-    }
-
-none-of : (g : Grounds) → Accepted g → NoneHolds (inOrder g)
-unfolding inOrder
-none-of g a =
-    (a .ram, (a .reply, (a .settings, (a .length, (a .layout, (a .address, (a .subaddress, (a .stack, (a .cell, tt)))))))))
-
--- 0 is done exactly when no case holds
-pub accepted : (g : Grounds) → (firstRefusal g ≡ 0) ↔ Accepted g
-unfolding firstRefusal
-accepted g =
-    let both = first-zero (inOrder g) (table-numbered g) in
-    (λ e. accepted-of g (both .0 e), λ a. both .1 (none-of g a))
-
--- n refuses exactly when its case holds and none above it in the table
-pub refused : (g : Grounds) (n : ℕ) → (n ≡ 0 → ⊥) → (firstRefusal g ≡ n) ↔ First (inOrder g) n
-unfolding firstRefusal
-refused g n m = first-number (inOrder g) n m
-
--- no number outside the table is ever given
-pub refusal-small : (g : Grounds) → firstRefusal g ≤ 9
-unfolding firstRefusal inOrder
-refusal-small g =
-    first-at-most 9 (inOrder g)
-    (omega arith, (omega arith, (omega arith, (omega arith, (omega arith, (omega arith, (omega arith, (omega arith, (omega arith, tt)))))))))
+    ⊎-elim (λ it. rw it (leb-true (t .number) n (and-left (leb (t .number) n) (atMost n ts) h)))
+    (λ fails. rw fails (first-at-most n ts (and-right (leb (t .number) n) (atMost n ts) h))) (yes-or-no (t .holds))

@@ -1,10 +1,9 @@
--- Settings and the remembered state. "Settings: RT address 0 to 30; area A or B; stack size 256, 512, 1,024 or 2,048 words;
--- yes/no for ..". "The terminal remembers the last command and last status, both 0 at first."
+-- Settings. "Settings: RT address 0 to 30; area A or B; stack size 256, 512, 1,024 or 2,048 words; yes/no for .."
 use Prim.Native.Nat.{ℕ}
-use mathlib.Core.Bool.{Bool, not, _&&_, _||_}
+use mathlib.Core.Bool.{Bool, true, false, not, _&&_, _||_}
 use lib.Dec.{ltb, eqb}
 use Rattle.words.specs.declared.settings.Settings.{Settings}
-use Rattle.words.specs.declared.settings.Remembered.{Remembered}
+use Rattle.words.specs.declared.settings.Area.the-variants.{A}
 use Rattle.words.specs.Command.{addressOf}
 
 -- "stack size 256, 512, 1,024 or 2,048 words"
@@ -27,6 +26,23 @@ isBroadcast s command = eqb (addressOf command) 31
 unfoldable pub isNotOurs : Settings → ℕ → Bool
 isNotOurs s command = not (isOwn s command) && not (isBroadcast s command)
 
--- "both 0 at first"
-abbrev pub nothingRemembered : Remembered
-nothingRemembered = record { command = 0; status = 0 }
+-- "RT 5, area A, stack 256", overwrite-invalid as told, "and the rest off"
+abbrev pub plainSettings : Bool → Settings
+plainSettings overwrite =
+    record {
+      address = 5;
+      area = A;
+      «stack_size» = 256;
+      «overwrite_invalid» = overwrite;
+      «separate_broadcast» = false;
+      «illegal_receive_disable» = false;
+      «busy_receive_disable» = false;
+      «busy_always» = false;
+      «service_request» = false;
+      «subsystem_flag» = false;
+      «terminal_flag» = false;
+    }
+
+-- the trace program's: "with RT 5, area A, stack 256, overwrite-invalid on and the rest off"
+unfoldable pub programSettings : Settings
+programSettings = plainSettings true

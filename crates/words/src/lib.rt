@@ -1,5 +1,7 @@
-// The bottom layer: command words, settings, the order of refusals. Document 01, "Words, records, settings".
+// The bottom layer: command words, settings, what is remembered, bits, the numbers that refuse. Document 01, "Words, records, settings".
+pub mod bits;
 pub mod choose;
 pub mod command;
-pub mod refusal;
+pub mod number;
+pub mod remembered;
 pub mod settings;

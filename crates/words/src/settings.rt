@@ -1,6 +1,6 @@
-// Settings, the remembered state, and what the settings alone decide.
+// Settings, and what they alone decide.
 ghost use mathlib.Core.Path.{_≡_};
-ghost use Rattle.words.specs.Settings.{stackSizeListed, settingsRefused, isOwn, isBroadcast, isNotOurs, nothingRemembered};
+ghost use Rattle.words.specs.Settings.{stackSizeListed, settingsRefused, isOwn, isBroadcast, isNotOurs, programSettings};
 use crate::choose::both;
 use crate::choose::either;
 use crate::choose::no;
@@ -24,21 +24,6 @@ pub struct Settings {
     pub service_request: bool,
     pub subsystem_flag: bool,
     pub terminal_flag: bool,
-}
-
-// What the terminal remembers from one message to the next.
-pub struct Remembered {
-    pub command: u16,
-    pub status: u16,
-}
-
-pub fn nothing_remembered() -> Remembered
-    ensures { λ r. ⌜ r ≡ nothingRemembered ⌝ }
-{
-    Remembered {
-        command: 0,
-        status: 0,
-    }
 }
 
 fn stack_size_listed(size: u16) -> bool
@@ -74,4 +59,23 @@ pub fn is_not_ours(s: Settings, command: u16) -> bool
     ensures { λ r. ⌜ r ≡ isNotOurs s command ⌝ }
 {
     both(no(is_own(s, command)), no(is_broadcast(s, command)))
+}
+
+// The settings of the programs that are given none.
+pub fn program_settings() -> Settings
+    ensures { λ r. ⌜ r ≡ programSettings ⌝ }
+{
+    Settings {
+        address: 5,
+        area: Area::A,
+        stack_size: 256,
+        overwrite_invalid: true,
+        separate_broadcast: false,
+        illegal_receive_disable: false,
+        busy_receive_disable: false,
+        busy_always: false,
+        service_request: false,
+        subsystem_flag: false,
+        terminal_flag: false,
+    }
 }

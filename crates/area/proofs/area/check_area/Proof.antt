@@ -5,12 +5,12 @@ use Rattle.area.proofs.Before.{before-refused, before-none}
 use Rattle.area.proofs.area.check_area.Statement.{statement}
 use Rattle.area.proofs.area.check_area.Tie as tie
 
-refused-before-requires : tie.Need-refused-before-requires
-refused-before-requires c κs = search needs
+ground-refusal-requires : tie.Need-ground-refusal-requires
+ground-refusal-requires c κs = search needs
 
 returns : tie.Need-returns
 returns c =
-    let e = c .before .refused-before .ensures in
+    let e = c .before .ground-refusal .ensures in
     let a = c .before .before .before .args in
     rw e (before-refused (a .ram .now) (a .s) (λ z. c .if1 .taken (e ∙ z)))
 
@@ -22,7 +22,7 @@ pick-requires c κs = search needs
 
 returns-2 : tie.Need-returns-2
 returns-2 c =
-    let e = c .before .before .before .refused-before .ensures in
+    let e = c .before .before .before .ground-refusal .ensures in
     let a = c .before .before .before .before .before .args in
     rw (c .pick .ensures, c .before .lowest-unsound .ensures)
     (before-none (a .ram .now) (a .s) (sym e ∙ c .before .before .if1 .left))
@@ -30,4 +30,4 @@ returns-2 c =
 pub check-area-spec : {M : Type 1} → statement M
 check-area-spec =
     tie.close
-    (tie.spec refused-before-requires returns lowest-unsound-requires pick-requires returns-2)
+    (tie.spec ground-refusal-requires returns lowest-unsound-requires pick-requires returns-2)

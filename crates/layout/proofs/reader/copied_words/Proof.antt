@@ -4,8 +4,8 @@ use native.Mathlib.Omega.{arith}
 use Prim.Native.Nat.{_≤_, _-_, _+_, _*_}
 use mathlib.Core.Path.{_≡_, refl}
 use lib.ListN.{getD, replicate}
-use Rattle.records.specs.Fill.{fillFrom, fill}
-use Rattle.records.proofs.Fill.{fill-more}
+use Rattle.words.specs.Fill.{fillFrom, fill}
+use Rattle.words.proofs.Fill.{fill-more}
 use Rattle.layout.proofs.reader.copied_words.Statement.{statement}
 use Rattle.layout.proofs.reader.copied_words.Tie as tie
 

@@ -1,12 +1,12 @@
--- `words_in` meets its contract. The loop's invariant: in the first `i` words the bytes are exchanged.
+-- `words_in` meets its contract. The loop's invariant: in the first `i` words the bytes are swapped.
 use borrow.Author.Needs.{needs}
 use native.Mathlib.Omega.{arith}
 use Prim.Native.Nat.{_≤_, _-_, _+_, _*_}
 use mathlib.Core.Path.{_≡_, refl, _∙_}
 use Rattle.layout.specs.Layout.{wordAt, wordsIn}
-use Rattle.records.specs.Fill.{fillFrom, fill}
-use Rattle.records.proofs.Fill.{fill-more}
-use Rattle.layout.proofs.Copied.{exchange-next, exchanged-all}
+use Rattle.words.specs.Fill.{fillFrom, fill}
+use Rattle.words.proofs.Fill.{fill-more}
+use Rattle.layout.proofs.Copied.{swap-next, swapped-all}
 use Rattle.layout.proofs.reader.words_in.Statement.{statement}
 use Rattle.layout.proofs.reader.words_in.Tie as tie
 
@@ -23,14 +23,14 @@ loop-holds : tie.Need-loop-holds Inv-loop μ-loop
 unfolding fillFrom
 loop-holds c = (omega arith, refl)
 
-mul-exchange-bytes : tie.Need-mul-exchange-bytes Inv-loop μ-loop
-mul-exchange-bytes c = search needs
+mul-swap-bytes : tie.Need-mul-swap-bytes Inv-loop μ-loop
+mul-swap-bytes c = search needs
 
-array-read-exchange-bytes : tie.Need-array-read-exchange-bytes Inv-loop μ-loop
-array-read-exchange-bytes c = search needs
+array-read-swap-bytes : tie.Need-array-read-swap-bytes Inv-loop μ-loop
+array-read-swap-bytes c = search needs
 
-exchange-bytes-requires : tie.Need-exchange-bytes-requires Inv-loop μ-loop
-exchange-bytes-requires c κs = search needs
+swap-bytes-requires : tie.Need-swap-bytes-requires Inv-loop μ-loop
+swap-bytes-requires c κs = search needs
 
 mul-words : tie.Need-mul-words Inv-loop μ-loop
 mul-words c = search needs
@@ -51,9 +51,9 @@ loop-again c =
     let byte = c .before .before .before .before .shared-slice-known .given in
     let s = c .before .before .before .before .before .args .s .now in
     let next =
-    exchange-next s (copied .result) (at .words) (at .i) (copied .ensures) (at .inv .1) (omega arith)
+    swap-next s (copied .result) (at .words) (at .i) (copied .ensures) (at .inv .1) (omega arith)
     (omega (arith, byte (16 + 2 * at .i))) (omega (arith, byte (16 + 2 * at .i + 1))) in
-    (omega arith, rw (fill-more, ← at .inv .1, c .exchange-bytes .ensures, next))
+    (omega arith, rw (fill-more, ← at .inv .1, c .swap-bytes .ensures, next))
 
 returns : tie.Need-returns Inv-loop μ-loop
 unfolding wordsIn
@@ -61,7 +61,7 @@ returns c =
     let at = c .before .loop in
     let copied = c .before .before .copied-words in
     let s = c .before .before .before .before .args .s .now in
-    let e : at .i ≡ 32 = omega arith in rw e at (at .inv .1) ∙ exchanged-all s (copied .result) (copied .ensures)
+    let e : at .i ≡ 32 = omega arith in rw e at (at .inv .1) ∙ swapped-all s (copied .result) (copied .ensures)
 
 pub words-in-spec : {M : Type 1} → statement M
 words-in-spec =
@@ -71,9 +71,9 @@ words-in-spec =
     μ-loop
     copied-words-requires
     loop-holds
-    mul-exchange-bytes
-    array-read-exchange-bytes
-    exchange-bytes-requires
+    mul-swap-bytes
+    array-read-swap-bytes
+    swap-bytes-requires
     mul-words
     array-write-words
     add-i

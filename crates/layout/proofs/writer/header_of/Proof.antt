@@ -1,7 +1,10 @@
--- `header_of` meets its contract: the same six stores into eighty zero bytes.
-use mathlib.Core.Path.{refl}
+-- `header_of` meets its contract: a byte is the number of a field of one byte, and zero bytes are zero already.
+use Prim.Native.Nat.{_%_}
+use native.Mathlib.Omega.{arith}
+use mathlib.Core.Path.{_≡_}
 use borrow.Author.Needs.{needs}
-use Rattle.layout.specs.Writing.{headerOf}
+use Rattle.layout.specs.Fields.{putNumber, putFields}
+use Rattle.layout.specs.Writing.{headerFields, headerOf}
 use Rattle.layout.proofs.writer.header_of.Statement.{statement}
 use Rattle.layout.proofs.writer.header_of.Tie as tie
 
@@ -36,8 +39,12 @@ array-write-bytes-6 : tie.Need-array-write-bytes-6
 array-write-bytes-6 c = search needs
 
 returns : tie.Need-returns
-unfolding headerOf
-returns c = refl
+unfolding headerOf headerFields putFields putNumber
+returns c =
+    let v = c .before .before .before .before .args .v in
+    let flags : v .flags % 256 ≡ v .flags = omega arith in
+    let count : v .count % 256 ≡ v .count = omega arith in
+    rw (flags, count)
 
 pub header-of-spec : {M : Type 1} → statement M
 header-of-spec =

@@ -3,22 +3,23 @@ use borrow.Author.Needs.{needs}
 use native.Mathlib.Omega.{arith}
 use Prim.Native.Nat.{_≤_, _-_}
 use mathlib.Core.Path.{_≡_, refl}
-use Rattle.layout.specs.Exchanged.{allExchanged}
-use Rattle.layout.specs.Writing.{putWords}
+use Rattle.layout.specs.Swapped.{allSwapped}
+use Rattle.layout.specs.Fields.{putNumber, putFields}
+use Rattle.layout.specs.Writing.{wordFields, putWords}
 use Rattle.layout.proofs.Turns.{put-words-more}
-use Rattle.layout.proofs.Exchanged.{high-at, low-at}
+use Rattle.layout.proofs.Swapped.{high-at, low-at}
 use Rattle.layout.proofs.writer.put_low_first.Statement.{statement}
 use Rattle.layout.proofs.writer.put_low_first.Tie as tie
 
 abbrev Inv-loop : tie.InvT-loop
-Inv-loop turned bytes₀ i₀ bytes i =
-    (i ≤ 32) × (bytes ≡ putWords bytes₀ (allExchanged turned) i)
+Inv-loop swapped bytes₀ i₀ bytes i =
+    (i ≤ 32) × (bytes ≡ putWords bytes₀ (allSwapped swapped) i)
 
 abbrev μ-loop : tie.MeasureT-loop
-μ-loop turned bytes₀ i₀ bytes i = 32 - i
+μ-loop swapped bytes₀ i₀ bytes i = 32 - i
 
 loop-holds : tie.Need-loop-holds Inv-loop μ-loop
-unfolding putWords
+unfolding wordFields putFields
 loop-holds c = (omega arith, refl)
 
 mul-bytes : tie.Need-mul-bytes Inv-loop μ-loop
@@ -67,11 +68,12 @@ loop-less : tie.Need-loop-less Inv-loop μ-loop
 loop-less c = search needs
 
 loop-again : tie.Need-loop-again Inv-loop μ-loop
+unfolding putNumber
 loop-again c =
-    let turned = c .before .before .args .t2 in
+    let swapped = c .before .before .args .t2 in
     let at = c .before .loop in (
       omega arith,
-      rw (put-words-more, high-at turned (at .i) (search needs) (omega arith), low-at turned (at .i) (search needs) (omega arith), ← at .inv .1),
+      rw (put-words-more, high-at swapped (at .i) (search needs) (omega arith), low-at swapped (at .i) (search needs) (omega arith), ← at .inv .1),
     )
 
 returns : tie.Need-returns Inv-loop μ-loop

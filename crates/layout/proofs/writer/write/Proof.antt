@@ -1,8 +1,9 @@
 -- `write` meets its contract: each way out is a case of the writer.
 use mathlib.Core.Path.{_∙_, sym}
 use Rattle.layout.proofs.Cases.{write-layout, write-good}
+use Rattle.layout.proofs.Fields.{put-append}
 use borrow.Author.Needs.{needs}
-use Rattle.layout.specs.Writing.{bytesOf}
+use Rattle.layout.specs.Writing.{headerOf, fieldsOf, bytesOf}
 use Rattle.layout.proofs.writer.write.Statement.{statement}
 use Rattle.layout.proofs.writer.write.Tie as tie
 
@@ -16,11 +17,11 @@ put-words-requires : tie.Need-put-words-requires
 put-words-requires c κs = search needs
 
 returns : tie.Need-returns
-unfolding bytesOf
+unfolding headerOf fieldsOf bytesOf
 returns c =
     let k = c .before .before .before in
     let b = sym (k .before .keeps-layout .ensures) ∙ k .if1 .taken in
-    rw (c .put-words .ensures, c .before .header-of .ensures) (sym (write-good _ b))
+    rw (c .put-words .ensures, c .before .header-of .ensures, ← put-append) (sym (write-good _ b))
 
 returns-2 : tie.Need-returns-2
 returns-2 c = sym (write-layout _ (sym (c .before .keeps-layout .ensures) ∙ c .if1 .left))

@@ -1,0 +1,21 @@
+-- `any_fault` meets its contract: the same four flags.
+use borrow.Author.Needs.{needs}
+use Rattle.records.specs.Fault.{anyFault}
+use Rattle.records.proofs.fault.any_fault.Statement.{statement}
+use Rattle.records.proofs.fault.any_fault.Tie as tie
+
+either-requires : tie.Need-either-requires
+either-requires c κs = search needs
+
+either-requires-2 : tie.Need-either-requires-2
+either-requires-2 c κs = search needs
+
+either-requires-3 : tie.Need-either-requires-3
+either-requires-3 c κs = search needs
+
+returns : tie.Need-returns
+unfolding anyFault
+returns c = rw (c .either3 .ensures, c .before .either2 .ensures, c .before .before .either .ensures)
+
+pub any-fault-spec : {M : Type 1} → statement M
+any-fault-spec = tie.close (tie.spec either-requires either-requires-2 either-requires-3 returns)

@@ -1,0 +1,31 @@
+-- Rule 1: the faults of a message.
+use Prim.Native.Nat.{ℕ}
+use mathlib.Core.Bool.{Bool, not, cond, _&&_, _||_}
+use lib.Dec.{eqb}
+use Rattle.records.specs.declared.value.Record.{Record}
+use Rattle.words.specs.Command.{transmits, wordCount}
+use Rattle.records.specs.Value.{hasWrongSync, hasInvalidWord}
+use Rattle.records.specs.declared.fault.Faults.{Faults}
+
+-- "Expected words: the word count for receive, 0 for transmit."
+unfoldable pub expectedWords : ℕ → ℕ
+expectedWords command = cond (transmits command) 0 (wordCount command)
+
+-- "Sync fault and invalid word come from the flags. Count fault: count differs from expected and neither flag is set."
+-- The caller says how many words are expected, and whether the contents are at fault.
+unfoldable pub faultsOf : ℕ → Bool → Record → Faults
+faultsOf expected contents v =
+    record {
+      sync = hasWrongSync v;
+      invalid = hasInvalidWord v;
+      count = not (eqb (v .count) expected) && not (hasWrongSync v || hasInvalidWord v);
+      contents = contents;
+    }
+
+-- "Contents fault: a broadcast transmit."
+unfoldable pub faultsFor : Bool → Record → Faults
+faultsFor broadcast v = faultsOf (expectedWords (v .command)) (broadcast && transmits (v .command)) v
+
+-- "Valid means no fault."
+unfoldable pub anyFault : Faults → Bool
+anyFault f = (f .sync || f .invalid) || (f .count || f .contents)

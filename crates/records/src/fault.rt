@@ -1,0 +1,54 @@
+// Rule 1: the faults of a message.
+ghost use mathlib.Core.Path.{_≡_};
+ghost use Rattle.records.specs.Fault.{expectedWords, faultsOf, faultsFor, anyFault};
+use crate::value::Record;
+use crate::value::invalid_word;
+use crate::value::wrong_sync;
+use words::choose::both;
+use words::choose::either;
+use words::choose::no;
+use words::choose::pick;
+use words::command;
+
+pub struct Faults {
+    pub sync: bool,
+    pub invalid: bool,
+    pub count: bool,
+    pub contents: bool,
+}
+
+pub fn expected_words(command: u16) -> u16
+    ensures { λ r. ⌜ r ≡ expectedWords command ⌝ }
+{
+    pick(command::transmit(command), 0, command::word_count(command))
+}
+
+// The caller says how many words are expected, and whether the contents are at fault.
+pub fn faults_of(expected: u16, contents: bool, v: Record) -> Faults
+    ensures { λ r. ⌜ r ≡ faultsOf expected contents v ⌝ }
+{
+    let sync = wrong_sync(v);
+    let invalid = invalid_word(v);
+    Faults {
+        sync,
+        invalid,
+        count: both(no(v.count as u16 == expected), no(either(sync, invalid))),
+        contents,
+    }
+}
+
+pub fn faults_for(broadcast: bool, v: Record) -> Faults
+    ensures { λ r. ⌜ r ≡ faultsFor broadcast v ⌝ }
+{
+    faults_of(
+        expected_words(v.command),
+        both(broadcast, command::transmit(v.command)),
+        v,
+    )
+}
+
+pub fn any_fault(f: Faults) -> bool
+    ensures { λ r. ⌜ r ≡ anyFault f ⌝ }
+{
+    either(either(f.sync, f.invalid), either(f.count, f.contents))
+}

@@ -1,0 +1,43 @@
+-- The numbers that refuse, by name: the table "Numbers that refuse", in its order, and then those of later requests. `src/number.rt` has
+-- the same names for the code.
+use Prim.Native.Nat.{ℕ}
+
+-- "RAM is not 4,096 words"
+abbrev pub ramLength : ℕ
+ramLength = 1
+
+-- "reply buffer under 33 words"
+abbrev pub replyRoom : ℕ
+replyRoom = 2
+
+-- "RT address over 30, or stack size not listed"
+abbrev pub badSettings : ℕ
+badSettings = 3
+
+-- "record is not 80 bytes"
+abbrev pub recordLength : ℕ
+recordLength = 4
+
+-- "record breaks its layout (also the writer's answer)"
+abbrev pub recordLayout : ℕ
+recordLayout = 5
+
+-- "not own address and not 31"
+abbrev pub otherAddress : ℕ
+otherAddress = 6
+
+-- "subaddress 0 or 31"
+abbrev pub modeSubaddress : ℕ
+modeSubaddress = 7
+
+-- "stack unsound"
+abbrev pub unsoundStack : ℕ
+unsoundStack = 8
+
+-- "the message's cell unsound"
+abbrev pub unsoundCell : ℕ
+unsoundCell = 9
+
+-- "12 for an address beyond the RAM"
+abbrev pub addressBeyond : ℕ
+addressBeyond = 12

@@ -1,0 +1,22 @@
+// The numbers that refuse, by name. Document 01, "Numbers that refuse", in its order, and then those of document 02.
+
+// 1: RAM is not 4,096 words
+pub const RAM_LENGTH: u16 = 1;
+// 2: reply buffer under 33 words
+pub const REPLY_ROOM: u16 = 2;
+// 3: RT address over 30, or stack size not listed
+pub const BAD_SETTINGS: u16 = 3;
+// 4: record is not 80 bytes
+pub const RECORD_LENGTH: u16 = 4;
+// 5: record breaks its layout
+pub const RECORD_LAYOUT: u16 = 5;
+// 6: not own address and not 31
+pub const OTHER_ADDRESS: u16 = 6;
+// 7: subaddress 0 or 31
+pub const MODE_SUBADDRESS: u16 = 7;
+// 8: stack unsound
+pub const UNSOUND_STACK: u16 = 8;
+// 9: the message's cell unsound
+pub const UNSOUND_CELL: u16 = 9;
+// 12: an address beyond the RAM
+pub const ADDRESS_BEYOND: u16 = 12;
