@@ -2,23 +2,10 @@
 -- are equal. Each line speaks of the contract as the checker reads it (`Reads.Post`), so that none can drift from its function.
 use mathlib.Core.Path.{refl}
 use Rattle.words.proofs.Settled.{determined, Settled}
-use Rattle.arrival.proofs.fault
 use Rattle.arrival.proofs.target
-
-pub faults-of-settled : Settled 0 fault.faults_of.Kinds.ps fault.faults_of.Kinds.r fault.faults_of.Reads.Post
-faults-of-settled κs a x y v w p q = (determined p q, refl)
-
-pub any-fault-settled : Settled 0 fault.any_fault.Kinds.ps fault.any_fault.Kinds.r fault.any_fault.Reads.Post
-any-fault-settled κs a x y v w p q = (determined p q, refl)
 
 pub target-of-settled : Settled 1 target.target_of.Kinds.ps target.target_of.Kinds.r target.target_of.Reads.Post
 target-of-settled κs a x y v w p q = (determined p q, refl)
 
 pub cell-for-settled : Settled 1 target.cell_for.Kinds.ps target.cell_for.Kinds.r target.cell_for.Reads.Post
 cell-for-settled κs a x y v w p q = (determined p q, refl)
-
-pub expected-words-settled : Settled 0 fault.expected_words.Kinds.ps fault.expected_words.Kinds.r fault.expected_words.Reads.Post
-expected-words-settled κs a x y v w p q = (determined p q, refl)
-
-pub faults-for-settled : Settled 0 fault.faults_for.Kinds.ps fault.faults_for.Kinds.r fault.faults_for.Reads.Post
-faults-for-settled κs a x y v w p q = (determined p q, refl)

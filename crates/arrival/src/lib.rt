@@ -1,3 +1,2 @@
-// The third layer: what arrived, its faults, and the cell that it is aimed at. Document 01, "What one message does", rules 1 and 2.
-pub mod fault;
+// The third layer: where a command arrives: its cell, and whether it is illegal or busy. Document 01, "What one message does", rule 2.
 pub mod target;

@@ -8,30 +8,31 @@ use lib.ListN.{set}
 use Rattle.records.specs.declared.value.Record.{Record}
 use Rattle.words.specs.declared.settings.Settings.{Settings}
 use Rattle.memory.specs.Map.{lookupTable, stackPointerPlace}
-use Rattle.decide.specs.declared.plan.Deed.{Deed}
-use Rattle.decide.specs.declared.plan.Entry.{Entry}
+use Rattle.deed.specs.declared.deed.Deed.{Deed}
+use Rattle.decide.specs.declared.entry.Entry.{Entry}
 use Rattle.decide.specs.declared.plan.Plan.{Plan}
-use Rattle.carry.specs.Writes.{applyWrites, writesTo, dataWrites, pointerWrites, descriptorOf, entryWrites, deedWrites, stackWrites, writesOf}
+use Rattle.carry.specs.Writes.{dataWrites, pointerWrites, descriptorOf, entryWrites, deedWrites, stackWrites, writesOf}
+use Rattle.memory.specs.Writes.{applyWrites, writesTo}
 use Rattle.carry.specs.Reply.{sentWrites, replyWrites}
-use Rattle.carry.proofs.Writes.{apply-append}
+use Rattle.memory.proofs.Writes.{apply-append}
 
 -- the pointer where it moves, and where it stays
 pub pointer-moved :
-    (s : Settings) (d : Deed) (table : ℕ) (m m₁ : List ℕ) → d .motion .moves ≡ true → table ≡ lookupTable (s .area) →
-    m₁ ≡ set m (table + d .target .number) (d .motion .after) →
+    (s : Settings) (d : Deed) (table : ℕ) (m m₁ : List ℕ) → d .moves ≡ true → table ≡ lookupTable (s .area) →
+    m₁ ≡ set m (table + d .cell) (d .after) →
     m₁ ≡ applyWrites (pointerWrites s d) m
 unfolding pointerWrites applyWrites
 pointer-moved s d table m m₁ e t e₁ = rw (e, e₁, t)
 
-pub pointer-kept : (s : Settings) (d : Deed) (m : List ℕ) → d .motion .moves ≡ false → m ≡ applyWrites (pointerWrites s d) m
+pub pointer-kept : (s : Settings) (d : Deed) (m : List ℕ) → d .moves ≡ false → m ≡ applyWrites (pointerWrites s d) m
 unfolding pointerWrites applyWrites
 pointer-kept s d m e = rw e
 
 -- the four stack words, one after the other
 pub entry-put :
-    (e : Entry) (d : Deed) (v : Record) (m m₁ m₂ m₃ m₄ : List ℕ) → m₁ ≡ set m (e .pointer) (d .report .«block_status») →
+    (e : Entry) (d : Deed) (v : Record) (m m₁ m₂ m₃ m₄ : List ℕ) → m₁ ≡ set m (e .pointer) (d .«block_status») →
     m₂ ≡ set m₁ (e .pointer + 1) (v .tag) →
-    m₃ ≡ set m₂ (e .pointer + 2) (d .target .cell .pointer) →
+    m₃ ≡ set m₂ (e .pointer + 2) (d .before) →
     m₄ ≡ set m₃ (e .pointer + 3) (v .command) →
     m₄ ≡ applyWrites (entryWrites e (descriptorOf d v)) m
 unfolding entryWrites descriptorOf writesTo applyWrites
@@ -40,7 +41,7 @@ entry-put e d v m m₁ m₂ m₃ m₄ e₁ e₂ e₃ e₄ = rw (e₄, e₃, e₂
 -- the whole plan
 pub plan-carried :
     (s : Settings) (p : Plan) (v : Record) (at : ℕ) (m m₁ m₂ m₃ m₄ : List ℕ) →
-    m₁ ≡ applyWrites (dataWrites (p .deed .target .window) (v .words) (p .deed .act .stored)) m →
+    m₁ ≡ applyWrites (dataWrites (p .deed .window) (v .words) (p .deed .stored)) m →
     m₂ ≡ applyWrites (pointerWrites s (p .deed)) m₁ →
     m₃ ≡ applyWrites (entryWrites (p .entry) (descriptorOf (p .deed) v)) m₂ →
     at ≡ stackPointerPlace (s .area) → m₄ ≡ set m₃ at (p .entry .after) →
@@ -51,13 +52,13 @@ plan-carried s p v at m m₁ m₂ m₃ m₄ e₁ e₂ e₃ a e₄ =
 
 -- the reply where the status is sent, and where it is not
 pub reply-sent :
-    (ram : List ℕ) (d : Deed) (r r₁ r₂ : List ℕ) → d .report .answered ≡ true →
-    r₁ ≡ set r 0 (d .report .status) →
-    r₂ ≡ applyWrites (sentWrites ram (d .target .window) (d .act .sent)) r₁ →
+    (ram : List ℕ) (d : Deed) (r r₁ r₂ : List ℕ) → d .answered ≡ true →
+    r₁ ≡ set r 0 (d .status) →
+    r₂ ≡ applyWrites (sentWrites ram (d .window) (d .sent)) r₁ →
     r₂ ≡ applyWrites (replyWrites ram d) r
 unfolding replyWrites applyWrites
 reply-sent ram d r r₁ r₂ a e₁ e₂ = rw (a, e₂, e₁)
 
-pub reply-none : (ram : List ℕ) (d : Deed) (r : List ℕ) → d .report .answered ≡ false → r ≡ applyWrites (replyWrites ram d) r
+pub reply-none : (ram : List ℕ) (d : Deed) (r : List ℕ) → d .answered ≡ false → r ≡ applyWrites (replyWrites ram d) r
 unfolding replyWrites applyWrites
 reply-none ram d r a = rw a

@@ -13,11 +13,11 @@ use Rattle.words.specs.Command.{transmits}
 use Rattle.words.proofs.Basics.{yes-or-no}
 use Rattle.words.proofs.Commands.{word-count-to}
 use Rattle.windows.specs.Window.{placeOf}
-use Rattle.decide.specs.declared.plan.Deed.{Deed}
+use Rattle.deed.specs.declared.deed.Deed.{Deed}
 use Rattle.arrival.specs.declared.target.Target.{Target}
-use Rattle.deed.specs.Deed.{wordsSent, actWith, actOf}
-use Rattle.decide.specs.Plan.{deedOf}
-use Rattle.carry.specs.Writes.{Write, applyWrites, writesTo}
+use Rattle.deed.specs.Act.{wordsSent, actWith, actOf}
+use Rattle.deed.specs.Deed.{deedWith, deedOf}
+use Rattle.memory.specs.Writes.{Write, applyWrites, writesTo}
 use Rattle.carry.specs.Reply.{replyWrites, replyWords}
 
 -- the writes name places in a row, from `from` on
@@ -31,7 +31,7 @@ row-append from (x ∷ xs) ys h k =
     let e : from + suc (length xs) ≡ suc from + length xs = omega arith in
     (h .0, row-append (suc from) xs ys (h .1) (rw e at k))
 
-length-writes : (place word : ℕ → ℕ) (n : ℕ) → length (writesTo place word n) ≡ n
+pub length-writes : (place word : ℕ → ℕ) (n : ℕ) → length (writesTo place word n) ≡ n
 unfolding writesTo
 length-writes place word zero = refl
 length-writes place word (suc n) = simp (length-append, length-writes place word n) (omega arith)
@@ -70,24 +70,24 @@ module _ (ram : List ℕ) (d : Deed) where
   unfolding replyWrites
   reply-row =
       ⊎-elim
-      (λ (e : d .report .answered ≡ true).
-      rw e (refl, row-writes (λ k. getD ram (placeOf (d .target .window) k) 0) (d .act .sent)))
-      (λ (e : d .report .answered ≡ false). rw e tt)
-      (yes-or-no (d .report .answered))
+      (λ (e : d .answered ≡ true).
+      rw e (refl, row-writes (λ k. getD ram (placeOf (d .window) k) 0) (d .sent)))
+      (λ (e : d .answered ≡ false). rw e tt)
+      (yes-or-no (d .answered))
 
-  reply-short : length (replyWrites ram d) ≤ d .act .sent + 1
+  reply-short : length (replyWrites ram d) ≤ d .sent + 1
   unfolding replyWrites
   reply-short =
-      let l = length-writes (λ k. k + 1) (λ k. getD ram (placeOf (d .target .window) k) 0) (d .act .sent) in
+      let l = length-writes (λ k. k + 1) (λ k. getD ram (placeOf (d .window) k) 0) (d .sent) in
       ⊎-elim
-      (λ (e : d .report .answered ≡ true). rw e (omega (arith, l)))
-      (λ (e : d .report .answered ≡ false). rw e (omega arith))
-      (yes-or-no (d .report .answered))
+      (λ (e : d .answered ≡ true). rw e (omega (arith, l)))
+      (λ (e : d .answered ≡ false). rw e (omega arith))
+      (yes-or-no (d .answered))
 
   -- "The reply goes to the front of a lent buffer; its other words keep their contents."
   pub reply-front :
       (reply : List ℕ) →
-      d .act .sent + 1 ≤ length reply →
+      d .sent + 1 ≤ length reply →
       applyWrites (replyWrites ram d) reply ≡ replyWords ram d ++ drop (length (replyWords ram d)) reply
   unfolding replyWords
   reply-front reply l =
@@ -99,7 +99,7 @@ module _ (ram : List ℕ) (d : Deed) where
   -- no word behind those sent changes
   pub reply-behind :
       (reply : List ℕ) →
-      d .act .sent + 1 ≤ length reply →
+      d .sent + 1 ≤ length reply →
       (i : ℕ) →
       length (replyWords ram d) ≤ i →
       getD (applyWrites (replyWrites ram d) reply) i 0 ≡ getD reply i 0
@@ -109,8 +109,8 @@ module _ (ram : List ℕ) (d : Deed) where
       rw (reply-front reply l, ← e) (getD-append-add (replyWords ram d) (drop n reply) (i - n) 0 ∙ getD-drop n reply (i - n) 0)
 
 -- "Transmit sends its word count of words": at most 32
-pub sent-few : (s : Settings) (t : Target) (v : Record) → deedOf s t v .act .sent ≤ 32
-unfolding deedOf actOf actWith wordsSent
+pub sent-few : (s : Settings) (t : Target) (v : Record) → deedOf s t v .sent ≤ 32
+unfolding deedOf deedWith actOf actWith wordsSent
 sent-few s t v =
     let valid = actOf s t v .valid in
     ⊎-elim

@@ -5,8 +5,8 @@ use mathlib.Core.List.{List, [], _∷_, map}
 use lib.ListN.{getD}
 use Rattle.windows.specs.declared.window.Window.{Window}
 use Rattle.windows.specs.Window.{placeOf}
-use Rattle.decide.specs.declared.plan.Deed.{Deed}
-use Rattle.carry.specs.Writes.{Write, writesTo}
+use Rattle.deed.specs.declared.deed.Deed.{Deed}
+use Rattle.memory.specs.Writes.{Write, writesTo}
 
 -- rule 4: the data words, "read the same way", from place 1 of the reply on
 abbrev pub sentWrites : List ℕ → Window → ℕ → List Write
@@ -15,8 +15,8 @@ sentWrites ram w n = writesTo (λ k. k + 1) (λ k. getD ram (placeOf w k) 0) n
 -- rule 8: "the status is sent, before any data words"; no reply where it is not sent
 unfoldable pub replyWrites : List ℕ → Deed → List Write
 replyWrites ram d =
-    cond (d .report .answered)
-    (record { at = 0; word = d .report .status } ∷ sentWrites ram (d .target .window) (d .act .sent))
+    cond (d .answered)
+    (record { at = 0; word = d .status } ∷ sentWrites ram (d .window) (d .sent))
     []
 
 -- the words that a message sends, in order

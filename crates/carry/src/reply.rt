@@ -1,8 +1,8 @@
 // The reply: the status word and then the data words, at the front of the lent buffer.
 ghost use mathlib.Core.Path.{_≡_};
-ghost use Rattle.carry.specs.Writes.{applyWrites};
+ghost use Rattle.memory.specs.Writes.{applyWrites};
 ghost use Rattle.carry.specs.Reply.{sentWrites, replyWrites};
-use decide::plan::Deed;
+use deed::deed::Deed;
 use memory::ram::put;
 use memory::ram::word_at;
 use windows::window::Window;
@@ -21,12 +21,9 @@ fn send_words(ram: &[u16], reply: &mut [u16], w: Window, n: u16)
 pub fn send(ram: &[u16], reply: &mut [u16], d: Deed)
     ensures { λ r. ⌜ now (reply .exit) ≡ applyWrites (replyWrites (now (ram .entry)) d) (now (reply .entry)) ⌝ }
 {
-    let report = d.report;
-    if report.answered {
-        let t = d.target;
-        let a = d.act;
-        let w = t.window;
-        put(reply, 0, report.status);
-        send_words(ram, reply, w, a.sent);
+    if d.answered {
+        let w = d.window;
+        put(reply, 0, d.status);
+        send_words(ram, reply, w, d.sent);
     }
 }

@@ -1,12 +1,8 @@
--- The inputs determine the answer and every lent word: for each public function, any two results that its contract allows
--- are equal. Each line speaks of the contract as the checker reads it (`Reads.Post`), so that none can drift from its function.
+-- The inputs determine the answer: for each public function, any two results that its contract allows are equal.
+-- Each line speaks of the contract as the checker reads it (`Reads.Post`), so that none can drift from its function.
 use mathlib.Core.Path.{refl}
 use Rattle.words.proofs.Settled.{determined, Settled}
 use Rattle.decide.proofs.plan
-use Rattle.decide.proofs.report
-
-pub interrupt-word-settled : Settled 0 report.interrupt_word.Kinds.ps report.interrupt_word.Kinds.r report.interrupt_word.Reads.Post
-interrupt-word-settled κs a x y v w p q = (determined p q, refl)
 
 pub plan-of-settled : Settled 1 plan.plan_of.Kinds.ps plan.plan_of.Kinds.r plan.plan_of.Reads.Post
 plan-of-settled κs a x y v w p q = (determined p q, refl)

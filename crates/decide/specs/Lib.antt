@@ -1,3 +1,2 @@
-pub mod Report
+pub mod Entry
 pub mod Plan
-pub mod Ready

@@ -1,37 +1,46 @@
--- The plan of an accepted message: the deed, which happens in the cell, and the entry, which happens on the stack.
+-- The plan of an accepted message, worked out before a word is written: the deed, which happens in the cell, the entry, which happens
+-- on the stack, and the interrupt word.
 use Prim.Native.Nat.{ℕ}
-use mathlib.Core.List.{List}
+use mathlib.Core.Bool.{Bool, true, false}
+use mathlib.Core.List.{List, [], _∷_}
 use Rattle.records.specs.declared.value.Record.{Record}
 use Rattle.words.specs.declared.settings.Settings.{Settings}
-use Rattle.windows.specs.Window.{placeOf, rollsOver}
-use Rattle.cells.specs.Stack.{stackPointer, stackWindow}
-use Rattle.arrival.specs.declared.target.Target.{Target}
-use Rattle.decide.specs.declared.plan.Deed.{Deed}
-use Rattle.decide.specs.declared.plan.Entry.{Entry}
-use Rattle.decide.specs.declared.plan.Plan.{Plan}
+use Rattle.words.specs.declared.remembered.Remembered.{Remembered}
+use Rattle.words.specs.Bits.{wordOf}
 use Rattle.arrival.specs.Target.{targetOf}
-use Rattle.deed.specs.Deed.{actOf, motionOf}
-use Rattle.decide.specs.Report.{reportOf}
+use Rattle.deed.specs.declared.deed.Signals.{Signals}
+use Rattle.deed.specs.declared.deed.Deed.{Deed}
+use Rattle.deed.specs.Deed.{deedOf}
+use Rattle.decide.specs.declared.entry.Entry.{Entry}
+use Rattle.decide.specs.declared.plan.Plan.{Plan}
+use Rattle.decide.specs.Entry.{entryOf}
 
--- what the message does in its cell: no word of RAM is read beyond the target
-unfoldable pub deedOf : Settings → Target → Record → Deed
-deedOf s t v =
-    record {
-      target = t;
-      act = actOf s t v;
-      motion = motionOf s t (actOf s t v);
-      report = reportOf s t v (actOf s t v) (motionOf s t (actOf s t v));
-    }
+-- rule 9, from bit 15 down to bit 0: "14 illegal; 10 rollover with the cell's circular bit; 6 stack wrapped; 4 any fault; 2 the
+-- cell's end-of-message bit; 1 and 0 always."
+unfoldable pub interruptWord : Signals → Bool → ℕ
+interruptWord g wrapped =
+    wordOf
+    (false
+    ∷ g .illegal
+    ∷ false
+    ∷ false
+    ∷ false
+    ∷ g .rollover
+    ∷ false
+    ∷ false
+    ∷ false
+    ∷ wrapped
+    ∷ false
+    ∷ g .fault
+    ∷ false
+    ∷ g .end
+    ∷ true
+    ∷ true
+    ∷ [])
 
--- rule 6: "at the stack pointer .. The stack pointer moves on by 4, wrapping."
-unfoldable pub entryOf : List ℕ → Settings → Entry
-entryOf ram s =
-    record {
-      pointer = stackPointer ram s;
-      after = placeOf (stackWindow ram s) 4;
-      wrapped = rollsOver (stackWindow ram s) 4;
-    }
+unfoldable pub planWith : Deed → Entry → Plan
+planWith d e = record { deed = d; entry = e; interrupt = interruptWord (d .signals) (e .wrapped) }
 
--- all that an accepted message does and reports, worked out before a word is written
-unfoldable pub planOf : List ℕ → Settings → Record → Plan
-planOf ram s v = record { deed = deedOf s (targetOf ram s (v .command)) v; entry = entryOf ram s }
+-- all that an accepted message does and reports, from RAM and what is remembered
+unfoldable pub planOf : Settings → List ℕ → Remembered → Record → Plan
+planOf s ram remembered v = planWith (deedOf s (targetOf ram s (v .command)) v) (entryOf ram s)

@@ -1,3 +1,4 @@
 pub mod Reach
-pub mod Motion
+pub mod Contained
+pub mod StatusBits
 pub mod Determined

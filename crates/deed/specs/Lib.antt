@@ -1,2 +1,4 @@
-pub mod Addressed
+pub mod Act
+pub mod Motion
+pub mod Report
 pub mod Deed

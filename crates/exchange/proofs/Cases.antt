@@ -5,33 +5,39 @@ use Prim.Native.Nat.{ℕ}
 use mathlib.Core.Path.{_≡_, refl}
 use mathlib.Core.Bool.{true, false}
 use mathlib.Core.List.{List, [], _∷_, _++_, map}
+use Rattle.words.specs.Bits.{bitsOf}
 use Rattle.words.specs.Command.{wordCount, isModeSubaddress}
-use Rattle.words.specs.Settings.{stackSizeListed, settingsRefused, isOwn, isBroadcast, isNotOurs}
+use Rattle.words.specs.Settings.{stackSizeListed, settingsRefused, isOwn, isBroadcast, isNotOurs, programSettings}
+use Rattle.words.specs.Refusal.{firstOf}
 use Rattle.records.specs.Value.{lastsZero, keepsLayout}
-use Rattle.words.specs.Refusal.{firstOf, inOrder, firstRefusal}
+use Rattle.records.specs.Fault.{expectedWords, faultsOf, faultsFor, anyFault}
 use Rattle.memory.specs.Map.{ramRefused, stackPointerPlace, lookupTable, busyPlace, isBusyAt, illegalPlace, isIllegalAt}
-use Rattle.windows.specs.Window.{runFrom, aligned, placeOf, rollsOver, meets, meetsFixed}
 use Rattle.memory.specs.Kind.{cellNumber, kindNumbered, kindOf}
+use Rattle.memory.specs.Writes.{applyWrites, writesTo}
+use Rattle.windows.specs.Window.{runFrom, aligned, placeOf, rollsOver, meets, meetsFixed}
 use Rattle.cells.specs.Cell.{controlPart, pickScheme, schemeOf, cellAt, windowOf, doubleFits, soundCell}
 use Rattle.cells.specs.Stack.{stackPointer, stackWindow, stackSound}
-use Rattle.area.specs.Area.{isRead, cellNumbered, isUnsound, orElse, lowest, lowestUnsound, groundsWith, areaGrounds, areaRefusal, checkArea}
-use Rattle.arrival.specs.Fault.{expectedWords, faultsOf, faultsFor, anyFault}
 use Rattle.arrival.specs.Target.{cellFor, isIllegal, isBusy, targetOf}
-use Rattle.deed.specs.Deed.{withheld, wordsStored, wordsSent, actWith, actOf, mayMove, stride, moves, motionWith, motionOf}
-use Rattle.decide.specs.Report.{blockStatus, statusWord, reportOf, interruptWord}
-use Rattle.decide.specs.Plan.{deedOf, entryOf, planOf}
-use Rattle.carry.specs.Writes.{applyWrites, writesTo, pointerWrites, descriptorOf, entryWrites, deedWrites, stackWrites, writesOf}
+use Rattle.deed.specs.Act.{withheld, wordsStored, wordsSent, actWith, actOf}
+use Rattle.deed.specs.Motion.{mayMove, stride, moves, motionWith, motionOf}
+use Rattle.deed.specs.Report.{blockStatus, statusBits, statusWord}
+use Rattle.deed.specs.Deed.{signalsOf, deedWith, deedOf}
+use Rattle.decide.specs.Entry.{entryOf}
+use Rattle.decide.specs.Plan.{interruptWord, planWith, planOf}
+use Rattle.carry.specs.Writes.{pointerWrites, descriptorOf, entryWrites, deedWrites, stackWrites, writesOf}
 use Rattle.carry.specs.Reply.{replyWrites, replyWords}
-use Rattle.message.specs.Answer.{cellUnsound, groundsFor, refusalFor, refusedWith, acceptedWith, rememberedAfterPlan, acceptedOutcome, outcomeFor, ramFor, replyFor}
-use Rattle.message.specs.Message.{outcomeOfValue, ramAfterValue, replyAfterValue}
-use Rattle.message.specs.Run.{stepValue, run, effectOf, effects}
+use Rattle.message.specs.Tests.{cellUnsound, refusalFor}
+use Rattle.message.specs.Answer.{refusedWith, acceptedWith, answerFor}
+use Rattle.message.specs.Message.{rememberedWith, carriedOut, stateFor, answerOf, step}
+use Rattle.area.specs.Area.{isRead, cellNumbered, isUnsound, orElse, lowest, lowestUnsound, areaRefusal, checkArea}
+use Rattle.message.specs.Run.{run, effectOf, effects}
 use Rattle.exchange.specs.Order.{swapAt, exchangeAll}
 use Rattle.exchange.specs.Condition.{wellFormed, allWellFormed, mayExchange, allowedAt, allowedAll}
 use Rattle.exchange.specs.Descriptors.{entriesOn, lastOf, stackWord}
 use Rattle.exchange.specs.Kept.{withoutWrap, withoutStackRollover}
 use Rattle.exchange.specs.After.{keptAfter, stackAfter, rememberedLast, rememberedAfter}
 use Rattle.exchange.specs.Exchanged.{startsWell, takesWell, asked}
-use Rattle.exchange.specs.Cases.{bench, plainRam, startOf, Order, orderOf, Said, saidOf, Seen, seen, cases}
+use Rattle.exchange.specs.Cases.{plainRam, startOf, Order, orderOf, Said, saidOf, Seen, seen, cases}
 
 abbrev pub order : List ℕ → List ℕ → List (List ℕ) → List ℕ → ℕ → ℕ → Order
 order words numbers sends interrupts command status =
@@ -155,5 +161,5 @@ expected =
     ∷ []
 
 pub computed : map seen cases ≡ expected
-unfolding wordCount isModeSubaddress stackSizeListed settingsRefused isOwn isBroadcast isNotOurs lastsZero keepsLayout firstOf inOrder firstRefusal ramRefused stackPointerPlace lookupTable busyPlace isBusyAt illegalPlace isIllegalAt runFrom aligned placeOf rollsOver meets meetsFixed cellNumber kindNumbered kindOf controlPart pickScheme schemeOf cellAt windowOf doubleFits soundCell stackPointer stackWindow stackSound isRead cellNumbered isUnsound orElse lowest lowestUnsound groundsWith areaGrounds areaRefusal checkArea expectedWords faultsOf faultsFor anyFault cellFor isIllegal isBusy targetOf withheld wordsStored wordsSent actWith actOf mayMove stride moves motionWith motionOf blockStatus statusWord reportOf interruptWord deedOf entryOf planOf applyWrites writesTo pointerWrites descriptorOf entryWrites deedWrites stackWrites writesOf replyWrites replyWords cellUnsound groundsFor refusalFor refusedWith acceptedWith rememberedAfterPlan acceptedOutcome outcomeFor ramFor replyFor outcomeOfValue ramAfterValue replyAfterValue stepValue run effectOf effects swapAt exchangeAll wellFormed allWellFormed mayExchange allowedAt allowedAll withoutWrap withoutStackRollover rememberedLast entriesOn lastOf stackWord keptAfter stackAfter rememberedAfter startsWell takesWell asked bench plainRam startOf orderOf saidOf seen
+unfolding bitsOf wordCount isModeSubaddress stackSizeListed settingsRefused isOwn isBroadcast isNotOurs firstOf lastsZero keepsLayout expectedWords faultsOf faultsFor anyFault ramRefused stackPointerPlace lookupTable busyPlace isBusyAt illegalPlace isIllegalAt cellNumber kindOf applyWrites writesTo runFrom aligned placeOf rollsOver meets meetsFixed controlPart pickScheme schemeOf cellAt windowOf doubleFits soundCell stackPointer stackWindow stackSound cellFor isIllegal isBusy targetOf withheld wordsStored wordsSent actWith actOf mayMove stride moves motionWith motionOf blockStatus statusBits statusWord signalsOf deedWith deedOf entryOf interruptWord planWith planOf pointerWrites descriptorOf entryWrites deedWrites stackWrites writesOf replyWrites replyWords cellUnsound refusalFor refusedWith acceptedWith answerFor rememberedWith carriedOut stateFor answerOf step kindNumbered programSettings isRead cellNumbered isUnsound orElse lowest lowestUnsound areaRefusal checkArea run effectOf effects swapAt exchangeAll wellFormed allWellFormed mayExchange allowedAt allowedAll withoutWrap withoutStackRollover rememberedLast entriesOn lastOf stackWord keptAfter stackAfter rememberedAfter startsWell takesWell asked plainRam startOf orderOf saidOf seen
 computed = refl

@@ -10,7 +10,6 @@ use mathlib.Core.List.{List, [], _∷_, map}
 use lib.ListN.{length, getD}
 use lib.Dec.{ltb}
 use borrow.Author.Tests.{ltb-true, ltb-false}
-use Rattle.records.specs.declared.value.Record.{Record}
 use Rattle.words.specs.declared.settings.Settings.{Settings}
 use Rattle.words.proofs.Basics.{yes-or-no}
 use Rattle.windows.specs.declared.window.Window.{Window}
@@ -18,14 +17,17 @@ use Rattle.windows.specs.Window.{aligned}
 use Rattle.cells.specs.Stack.{stackPointer, stackWindow}
 use Rattle.windows.proofs.Wrap.{aligned-pointer, aligned-moved}
 use Rattle.cells.proofs.Block.{WholeEntries, size-whole, Offset, offset-of, entry-fits, stack-nonempty}
-use Rattle.message.specs.Run.{State, stepValue, run, effectOf, effects}
+use Rattle.message.specs.Heard.{Heard}
+use Rattle.memory.specs.State.{State}
+use Rattle.message.specs.Message.{step}
+use Rattle.message.specs.Run.{run, effectOf, effects}
 use Rattle.message.proofs.Step.{stack-moves, entry-stands, block-stays}
 use Rattle.exchange.specs.Descriptors.{entriesOn, lastOf, stackWord}
 use Rattle.exchange.proofs.StackEntries.{on, on-less, on-farthest, on-other, further, next-offset, last-on}
 use Rattle.exchange.proofs.Taken.{Good, Formed, AllFormed, done, sure, good-next}
 
 -- the descriptors of a run, in order
-abbrev pub descriptors : Settings → List Record → State → List (List ℕ)
+abbrev pub descriptors : Settings → List Heard → State → List (List ℕ)
 descriptors s vs x = map (λ e. e .descriptor) (effects s vs x)
 
 -- a block of n words from `start`, with the stack pointer at offset o, before and after m descriptors
@@ -43,7 +45,7 @@ pub record Filled (start n o : ℕ) (ds : List (List ℕ)) (before after : List 
 -- one descriptor more in front
 module _
     (s : Settings)
-    (v : Record)
+    (v : Heard)
     (x : State)
     (start n o : ℕ)
     (g : Good s x)
@@ -53,7 +55,7 @@ module _
     (h : Offset n o)
   where
     abbrev after : List ℕ
-    after = stepValue s v x .ram
+    after = step s v x .ram
 
     pointer-at : stackPointer (x .ram) s ≡ start + o
     unfolding stackWindow
@@ -65,7 +67,7 @@ module _
         let p = stackPointer (x .ram) s in
         let m = s .«stack_size» in
         let q : 0 < m = stack-nonempty (x .ram) s (sure s v x g f .agreed) (sure s v x g f .stack) in
-        rw (done s v x g f .ram, stack-moves (x .ram) s v (sure s v x g f))
+        rw (done s v x g f .ram, stack-moves (x .ram) s (v .value) (sure s v x g f))
         (aligned-moved p m 4 q ∙ ap (λ (b : Window). record { start = b .start; size = b .size; offset = (b .offset + 4) % b .size }) w)
 
     inside-from : (j : ℕ) → stackWindow (x .ram) s .start ≤ start + j
@@ -78,14 +80,14 @@ module _
     place-stays : (j : ℕ) → j < n → 1 ≤ on n o j → getD after (start + j) 0 ≡ getD (x .ram) (start + j) 0
     place-stays j l i =
         rw (done s v x g f .ram)
-        (block-stays (x .ram) s v (sure s v x g f) (start + j) (inside-from j) (inside-below j l)
+        (block-stays (x .ram) s (v .value) (sure s v x g f) (start + j) (inside-from j) (inside-below j l)
         (λ k b e. on-other n z o j k h l i b (omega (arith, pointer-at))))
 
     -- the entry at the pointer holds the descriptor
     place-filled : (k : ℕ) → k < 4 → getD after (start + (o + k)) 0 ≡ getD (effectOf s v x .descriptor) k 0
     place-filled k b =
         let e : start + (o + k) ≡ stackPointer (x .ram) s + k = omega (arith, pointer-at) in
-        rw (done s v x g f .ram, done s v x g f .effect, e) (entry-stands (x .ram) s v (sure s v x g f) k b)
+        rw (done s v x g f .ram, done s v x g f .effect, e) (entry-stands (x .ram) s (v .value) (sure s v x g f) k b)
 
     -- the four words lie in the block
     entry-inside : (k : ℕ) → k < 4 → o + k < n
@@ -120,7 +122,7 @@ module _
 
 -- a whole run
 pub filled :
-    (s : Settings) (vs : List Record) (x : State) (start n o : ℕ) →
+    (s : Settings) (vs : List Heard) (x : State) (start n o : ℕ) →
     Good s x →
     AllFormed s vs →
     WholeEntries n →
@@ -130,8 +132,8 @@ pub filled :
 unfolding effects run
 filled s [] x start n o g f z w h = record { last = λ i k p q b. absurd (omega arith); rest = λ j l m. refl }
 filled s (v ∷ vs) x start n o g f z w h =
-    one-more s v x start n o g (f .0) z w h (descriptors s vs (stepValue s v x)) (run s vs (stepValue s v x) .ram)
-    (filled s vs (stepValue s v x) start n ((o + 4) % n) (good-next s v x g (f .0)) (f .1) z
+    one-more s v x start n o g (f .0) z w h (descriptors s vs (step s v x)) (run s vs (step s v x) .ram)
+    (filled s vs (step s v x) start n ((o + 4) % n) (good-next s v x g (f .0)) (f .1) z
     (next-window s v x start n o g (f .0) z w h) (next-offset n z o h))
 
 -- each place of the block, by the last descriptor there
@@ -167,7 +169,7 @@ unfolding stackWindow aligned
 pointer-offset s x g = offset-of (s .«stack_size») (whole-entries s x g) (stackPointer (x .ram) s) (g .area .accepted .stack-sound .multiple)
 
 pub stack-holds :
-    (s : Settings) (vs : List Record) (x : State) →
+    (s : Settings) (vs : List Heard) (x : State) →
     Good s x →
     AllFormed s vs →
     (j : ℕ) →
@@ -184,7 +186,7 @@ stack-holds s vs x g f =
 -- "The stack holds the last descriptors that fit": each of the last that the block has room for stands at its place, the first
 -- at the stack pointer and each later one behind the one before, wrapping
 pub last-fit :
-    (s : Settings) (vs : List Record) (x : State) →
+    (s : Settings) (vs : List Heard) (x : State) →
     Good s x →
     AllFormed s vs →
     (i k : ℕ) →

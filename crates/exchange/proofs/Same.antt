@@ -5,7 +5,6 @@ use mathlib.Core.Path.{_≡_, refl, sym, _∙_}
 use mathlib.Core.Logic.{⊎-elim}
 use mathlib.Core.List.{List, [], _∷_}
 use lib.ListN.{length, getD}
-use Rattle.records.specs.declared.value.Record.{Record}
 use Rattle.words.specs.declared.settings.Settings.{Settings}
 use Rattle.words.specs.Command.{subaddressOf}
 use Rattle.words.specs.Settings.{isOwn}
@@ -22,30 +21,24 @@ use Rattle.cells.proofs.Described.{cell-words}
 use Rattle.cells.proofs.Sound.{sound-place}
 use Rattle.memory.proofs.Numbers.{number-below}
 use Rattle.memory.proofs.Places.{lookup-between, control-between, stack-pointer-between, busy-between, illegal-between}
-use Rattle.decide.specs.declared.plan.Deed.{Deed}
+use Rattle.deed.specs.declared.deed.Deed.{Deed}
 use Rattle.arrival.specs.Target.{cellFor, isIllegal, isBusy, targetOf}
-use Rattle.decide.specs.Plan.{deedOf, entryOf, planOf}
-use Rattle.carry.specs.Writes.{writesTo, deedWrites}
+use Rattle.decide.specs.Entry.{entryOf}
+use Rattle.carry.specs.Writes.{deedWrites}
+use Rattle.memory.specs.Writes.{writesTo}
 use Rattle.carry.specs.Reply.{replyWrites, replyWords}
-use Rattle.message.specs.Run.{State, stepValue, run, effectOf, effects}
-use Rattle.carry.proofs.Footprint.{same-at}
-use Rattle.message.proofs.Step.{deedFor, after-length, target-sized, stack-moves, beyond-stack}
+use Rattle.message.specs.Heard.{Heard}
+use Rattle.memory.specs.State.{State}
+use Rattle.message.specs.Message.{step}
+use Rattle.message.specs.Run.{run, effectOf, effects}
+use Rattle.memory.proofs.Alike.{Alike, alike-more}
+use Rattle.memory.proofs.Footprint.{same-at}
+use Rattle.message.proofs.Step.{deedFor, deed-window, madePlan, after-length, target-sized, stack-moves, beyond-stack}
 use Rattle.exchange.proofs.Taken.{Good, Formed, AllFormed, done, sure, good-next, step-keeps}
 
-pub record Alike (block : Window) (m n : List ℕ) : Type 0 where
-  pub long : length m ≡ length n
-  pub words : (a : ℕ) → Outside block a → getD m a 0 ≡ getD n a 0
-
-pub alike-self : (block : Window) (m : List ℕ) → Alike block m m
-alike-self block m = record { long = refl; words = λ a h. refl }
-
-pub alike-both : (block : Window) (l m n : List ℕ) → Alike block l m → Alike block m n → Alike block l n
-alike-both block l m n e g = record { long = e .long ∙ g .long; words = λ a h. e .words a h ∙ g .words a h }
-
 -- the stack's block, though its pointer has moved
-pub alike-block : (v w : Window) (m n : List ℕ) → SameRun v w → Alike w m n → Alike v m n
-alike-block v w m n k e =
-    record { long = e .long; words = λ a h. e .words a (λ p q. h (rw (k .start) p) (rw (k .start, k .size) q)) }
+pub alike-block : (v w : Window) (m n : List ℕ) → SameRun v w → Alike (Outside w) m n → Alike (Outside v) m n
+alike-block v w m n k = alike-more (Outside w) (Outside v) m n (λ a h p q. h (rw (k .start) p) (rw (k .start, k .size) q))
 
 -- a command is aimed at the same where its cell, its illegal word and its busy word are the same
 pub target-same :
@@ -66,18 +59,18 @@ writes-same place f g (suc n) h = rw (writes-same place f g n (λ k l. h k (omeg
 -- the words sent are the same where the window's words are
 pub words-same :
     (m n : List ℕ) (d : Deed) →
-    ((k : ℕ) → getD m (placeOf (d .target .window) k) 0 ≡ getD n (placeOf (d .target .window) k) 0) →
+    ((k : ℕ) → getD m (placeOf (d .window) k) 0 ≡ getD n (placeOf (d .window) k) 0) →
     replyWords m d ≡ replyWords n d
 unfolding replyWords replyWrites
 words-same m n d h =
-    let w = d .target .window in
-    rw (writes-same (λ k. k + 1) (λ k. getD m (placeOf w k) 0) (λ k. getD n (placeOf w k) 0) (d .act .sent) (λ k l. h k))
+    let w = d .window in
+    rw (writes-same (λ k. k + 1) (λ k. getD m (placeOf w k) 0) (λ k. getD n (placeOf w k) 0) (d .sent) (λ k l. h k))
 
 -- the stack pointer lies outside the stack's block
 pub pointer-same :
     (ram m n : List ℕ) (s : Settings) →
     StackSound ram s →
-    Alike (stackWindow ram s) m n →
+    Alike (Outside (stackWindow ram s)) m n →
     stackPointer m s ≡ stackPointer n s
 unfolding stackPointer
 pointer-same ram m n s f e =
@@ -87,12 +80,12 @@ pointer-same ram m n s f e =
 -- one message
 module _
     (s : Settings)
-    (v : Record)
+    (v : Heard)
     (x y : State)
     (g : Good s x)
     (h : Good s y)
     (f : Formed s v)
-    (e : Alike (stackWindow (x .ram) s) (x .ram) (y .ram))
+    (e : Alike (Outside (stackWindow (x .ram) s)) (x .ram) (y .ram))
   where
     abbrev m : List ℕ
     m = x .ram
@@ -110,10 +103,10 @@ module _
     unfolding stackWindow
     block-same = rw pointers-same
 
-    aim-same : targetOf m s (v .command) ≡ targetOf n s (v .command)
+    aim-same : targetOf m s (v .value .command) ≡ targetOf n s (v .value .command)
     unfolding cellFor
     aim-same =
-        let c = v .command in
+        let c = v .value .command in
         let sub = subaddressOf c in
         let number = cellNumber (kindOf s c) sub in
         let l = lookup-between (s .area) number (number-below (kindOf s c) sub (omega arith)) in
@@ -127,17 +120,21 @@ module _
         (illegal-off m s (g .area .accepted .stack-sound) (illegalPlace (isOwn s c) c) (omega arith) (omega arith)))
         (table-same (busyPlace (isOwn s c) c) (omega arith) (omega arith))
 
-    reads-same : replyWords m (deedFor m s v) ≡ replyWords n (deedFor n s v)
-    unfolding deedOf targetOf
+    window-off : (k : ℕ) → Outside (stackWindow m s) (placeOf (targetOf m s (v .value .command) .window) k)
+    unfolding targetOf
+    window-off k =
+        sound-place (length m) (stackWindow m s) (cellFor m s (v .value .command)) (sure s v x g f .cell)
+        (target-sized m s (v .value)) k .stack
+
+    reads-same : replyWords m (deedFor m s (v .value)) ≡ replyWords n (deedFor n s (v .value))
     reads-same =
-        words-same m n (deedFor m s v)
+        words-same m n (deedFor m s (v .value))
         (λ k.
-        e .words (placeOf (deedFor m s v .target .window) k)
-        (sound-place (length m) (stackWindow m s) (cellFor m s (v .command)) (sure s v x g f .cell) (target-sized m s v) k .stack))
+        rw (deed-window m s (v .value)) (e .words (placeOf (targetOf m s (v .value .command) .window) k) (window-off k)))
         ∙ rw aim-same
 
-    plan-same : planOf m s v ≡ planOf n s v
-    unfolding planOf entryOf
+    plan-same : madePlan m s (v .value) ≡ madePlan n s (v .value)
+    unfolding entryOf
     plan-same = rw (aim-same, pointers-same, block-same)
 
     pub effect-same : effectOf s v x ≡ effectOf s v y
@@ -146,7 +143,7 @@ module _
         let q = done s v y h f .effect in
         rw (p, q, plan-same, reads-same, aim-same)
 
-    pub step-same : Alike (stackWindow m s) (stepValue s v x .ram) (stepValue s v y .ram)
+    pub step-same : Alike (Outside (stackWindow m s)) (step s v x .ram) (step s v y .ram)
     unfolding stackPointer
     step-same =
         let p = done s v x g f .ram in
@@ -155,32 +152,32 @@ module _
         let fn = sure s v y h f in
         rw (p, q)
         (record {
-          long = after-length m s v ∙ e .long ∙ sym (after-length n s v);
+          long = after-length m s (v .value) ∙ e .long ∙ sym (after-length n s (v .value));
           words =
               λ a o.
               ⊎-elim
               (λ (r : a ≡ stackPointerPlace (s .area)).
-              rw r (stack-moves m s v fm ∙ rw block-same (sym (stack-moves n s v fn))))
+              rw r (stack-moves m s (v .value) fm ∙ rw block-same (sym (stack-moves n s (v .value) fn))))
               (λ (r : a ≡ stackPointerPlace (s .area) → ⊥).
-              beyond-stack m s v fm a o r
-              ∙ same-at a (deedWrites s (deedFor m s v) v) m n (e .long) (e .words a o)
-              ∙ rw aim-same (sym (beyond-stack n s v fn a (rw block-same at o) r)))
+              beyond-stack m s (v .value) fm a o r
+              ∙ same-at a (deedWrites s (deedFor m s (v .value)) (v .value)) m n (e .long) (e .words a o)
+              ∙ rw aim-same (sym (beyond-stack n s (v .value) fn a (rw block-same at o) r)))
               (eq-or-ne a (stackPointerPlace (s .area)));
         })
 
 -- a whole run
 pub run-same :
-    (s : Settings) (vs : List Record) (x y : State) →
+    (s : Settings) (vs : List Heard) (x y : State) →
     Good s x →
     Good s y →
     AllFormed s vs →
-    Alike (stackWindow (x .ram) s) (x .ram) (y .ram) →
-    (effects s vs x ≡ effects s vs y) × Alike (stackWindow (x .ram) s) (run s vs x .ram) (run s vs y .ram)
+    Alike (Outside (stackWindow (x .ram) s)) (x .ram) (y .ram) →
+    (effects s vs x ≡ effects s vs y) × Alike (Outside (stackWindow (x .ram) s)) (run s vs x .ram) (run s vs y .ram)
 unfolding effects run
 run-same s [] x y g h f e = (refl, e)
 run-same s (v ∷ vs) x y g h f e =
-    let x₁ = stepValue s v x in
-    let y₁ = stepValue s v y in
+    let x₁ = step s v x in
+    let y₁ = step s v y in
     let k = step-keeps s v x g (f .0) .stack in
     let r =
     run-same s vs x₁ y₁ (good-next s v x g (f .0)) (good-next s v y h (f .0)) (f .1)

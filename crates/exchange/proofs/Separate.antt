@@ -23,12 +23,11 @@ use Rattle.windows.proofs.Meets.{windows-swap, nothing-shared, Outside, in-or-o
 use Rattle.cells.proofs.Sound.{FreeAddress, sound-address}
 use Rattle.memory.proofs.Places.{lookup-between, lookup-differs, ordinary-not-lookup, ordinary-not-stack-pointer}
 use Rattle.arrival.specs.Target.{cellFor, targetOf}
-use Rattle.decide.specs.Plan.{deedOf}
 use Rattle.carry.specs.Writes.{deedWrites}
 use Rattle.carry.specs.Reply.{replyWords}
-use Rattle.carry.proofs.Footprint.{Avoids}
+use Rattle.memory.proofs.Footprint.{Avoids}
 use Rattle.message.proofs.Sure.{Sure}
-use Rattle.message.proofs.Step.{afterMessage, deedFor, cell-low, target-some, deed-avoids, elsewhere, tables-outside}
+use Rattle.message.proofs.Step.{afterMessage, deedFor, deed-window, cell-low, target-some, deed-avoids, elsewhere, tables-outside}
 use Rattle.message.proofs.Kept.{message-keeps, other-cell}
 use Rattle.exchange.specs.Condition.{mayExchange}
 use Rattle.exchange.proofs.Same.{target-same, words-same}
@@ -106,7 +105,6 @@ module _
         (k .busy (isOwn s c) c)
 
     pub reads-stay : replyWords (afterMessage ram s a) (deedFor (afterMessage ram s a) s b) ≡ replyWords ram (deedFor ram s b)
-    unfolding deedOf
     reads-stay =
         rw aim-stays
         (words-same (afterMessage ram s a) ram (deedFor ram s b)
@@ -115,11 +113,12 @@ module _
         let l = place-from u k in
         let h = place-below u k (target-some ram s b) in
         let o = window-free i l h in
-        elsewhere ram s a f i
+        rw (deed-window ram s b)
+        (elsewhere ram s a f i
         (λ e. ordinary-not-lookup (length ram) i (o .ordinary) (s .area) (targetOf ram s (a .command) .number) (cell-low ram s a) (sym e))
         (reaches i l h)
         (o .stack)
-        (λ e. ordinary-not-stack-pointer (length ram) i (o .ordinary) (s .area) (sym e))))
+        (λ e. ordinary-not-stack-pointer (length ram) i (o .ordinary) (s .area) (sym e)))))
 
     -- every address is left alone by one of the two deeds
     pub one-avoids :

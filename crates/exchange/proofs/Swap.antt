@@ -3,7 +3,7 @@ use Prim.Native.Nat.{ℕ}
 use native.Mathlib.Omega.{arith}
 use mathlib.Core.Path.{_≡_, sym, _∙_}
 use mathlib.Core.Logic.{⊎-elim}
-use mathlib.Core.Bool.{Bool, false, not, _&&_}
+use mathlib.Core.Bool.{Bool, false}
 use mathlib.Core.List.{List}
 use lib.ListN.{getD}
 use Rattle.records.specs.declared.value.Record.{Record}
@@ -12,80 +12,76 @@ use Rattle.words.proofs.Basics.{eq-or-ne}
 use Rattle.memory.specs.Map.{stackPointerPlace}
 use Rattle.windows.proofs.Meets.{Outside}
 use Rattle.cells.specs.Stack.{stackPointer, stackWindow}
-use Rattle.arrival.specs.declared.target.Target.{Target}
-use Rattle.decide.specs.declared.plan.Deed.{Deed}
-use Rattle.decide.specs.Plan.{planOf}
-use Rattle.decide.specs.Report.{interruptWord}
-use Rattle.carry.specs.Writes.{applyWrites, deedWrites, descriptorOf}
+use Rattle.deed.specs.declared.deed.Deed.{Deed}
+use Rattle.deed.specs.declared.deed.Signals.{Signals}
+use Rattle.decide.specs.declared.entry.Entry.{Entry}
+use Rattle.decide.specs.Entry.{entryOf}
+use Rattle.decide.specs.Plan.{interruptWord, planWith}
+use Rattle.decide.proofs.Interrupt.{interrupt-sum}
+use Rattle.carry.specs.Writes.{deedWrites, descriptorOf}
+use Rattle.memory.specs.Writes.{applyWrites}
 use Rattle.carry.specs.Reply.{replyWords}
 use Rattle.message.specs.Answer.{acceptedWith}
-use Rattle.message.specs.Run.{State, stepValue, Effect, effectOf}
-use Rattle.memory.proofs.Bits.{bit-small}
-use Rattle.carry.proofs.Footprint.{Avoids, untouched, same-at}
+use Rattle.message.specs.Heard.{Heard}
+use Rattle.memory.specs.State.{State}
+use Rattle.message.specs.Message.{step}
+use Rattle.message.specs.Run.{Effect, effectOf}
+use Rattle.words.proofs.BitLaws.{bit-small}
+use Rattle.memory.proofs.Footprint.{Avoids, untouched, same-at}
 use Rattle.message.proofs.Sure.{Sure}
 use Rattle.message.proofs.Step.{afterMessage, deedFor, after-length, beyond-stack, stack-moves}
 use Rattle.message.proofs.Kept.{message-keeps}
 use Rattle.exchange.specs.Kept.{withoutWrap, withoutStackRollover}
 use Rattle.exchange.proofs.Taken.{Good, Formed, done, sure, good-next}
-use Rattle.exchange.proofs.Same.{Alike}
+use Rattle.memory.proofs.Alike.{Alike}
 use Rattle.exchange.proofs.Separate.{Separate, separate-swap, aim-stays, reads-stay, one-avoids}
 
 -- the interrupt word without bit 6 is the one of a stack that did not wrap
-pub wrap-cleared :
-    (t : Target) (valid rollover wrapped : Bool) →
-    withoutWrap (interruptWord t valid rollover wrapped) ≡ interruptWord t valid rollover false
-unfolding withoutWrap interruptWord
-wrap-cleared t valid rollover wrapped =
-    let a = bit-small (t .illegal) in
-    let b = bit-small (rollover && t .cell .«circular_interrupt») in
+pub wrap-cleared : (g : Signals) (wrapped : Bool) → withoutWrap (interruptWord g wrapped) ≡ interruptWord g false
+unfolding withoutWrap
+wrap-cleared g wrapped =
+    let a = bit-small (g .illegal) in
+    let b = bit-small (g .rollover) in
     let c = bit-small wrapped in
-    let d = bit-small (not valid) in
-    let e = bit-small (t .cell .«end_interrupt») in
-    omega arith
+    let d = bit-small (g .fault) in
+    let e = bit-small (g .end) in
+    rw (interrupt-sum g wrapped, interrupt-sum g false) (omega arith)
+
+-- an entry that did not wrap: what a message shows tells nothing else of its entry
+abbrev unwrapped : Entry
+unwrapped = record { pointer = 0; after = 0; wrapped = false }
 
 -- what a message shows but for this bit, by its deed and the words that it sends
 abbrev shows : Deed → List ℕ → Record → Effect
-shows d words v =
-    record {
-      answer =
-          record {
-            number = 0;
-            «block_status» = d .report .«block_status»;
-            cell = d .target .number;
-            before = d .target .cell .pointer;
-            after = d .motion .after;
-            status = d .report .status;
-            answered = d .report .answered;
-            sent = d .act .sent;
-            interrupt = interruptWord (d .target) (d .act .valid) (d .motion .rollover) false;
-          };
-      sends = words;
-      descriptor = descriptorOf d v;
-    }
+shows d words v = record { answer = acceptedWith (planWith d unwrapped); sends = words; descriptor = descriptorOf d v }
 
 shows-without-rollover :
-    (s : Settings) (v : Record) (x : State) →
+    (s : Settings) (v : Heard) (x : State) →
     Good s x →
     Formed s v →
-    withoutStackRollover (effectOf s v x) ≡ shows (deedFor (x .ram) s v) (replyWords (x .ram) (deedFor (x .ram) s v)) v
-unfolding withoutStackRollover acceptedWith planOf
+    withoutStackRollover (effectOf s v x)
+    ≡ shows (deedFor (x .ram) s (v .value)) (replyWords (x .ram) (deedFor (x .ram) s (v .value))) (v .value)
+unfolding withoutStackRollover acceptedWith planWith
 shows-without-rollover s v x g f =
-    let d = deedFor (x .ram) s v in
-    rw (done s v x g f .effect, wrap-cleared (d .target) (d .act .valid) (d .motion .rollover) (planOf (x .ram) s v .entry .wrapped))
+    rw (done s v x g f .effect, wrap-cleared (deedFor (x .ram) s (v .value) .signals) (entryOf (x .ram) s .wrapped))
 
 -- a message that goes first takes nothing from what the other shows
 pub shown-stays :
-    (s : Settings) (a b : Record) (x : State) →
+    (s : Settings) (a b : Heard) (x : State) →
     Good s x →
     Formed s a →
     Formed s b →
-    Separate (x .ram) s a b →
-    withoutStackRollover (effectOf s b (stepValue s a x)) ≡ withoutStackRollover (effectOf s b x)
+    Separate (x .ram) s (a .value) (b .value) →
+    withoutStackRollover (effectOf s b (step s a x)) ≡ withoutStackRollover (effectOf s b x)
 shown-stays s a b x g f h p =
     let fa = sure s a x g f in
     let fb = sure s b x g h in
-    shows-without-rollover s b (stepValue s a x) (good-next s a x g f) h
-    ∙ rw (done s a x g f .ram, reads-stay (x .ram) s a b fa fb p, aim-stays (x .ram) s a b fa fb p)
+    shows-without-rollover s b (step s a x) (good-next s a x g f) h
+    ∙ rw (
+      done s a x g f .ram,
+      reads-stay (x .ram) s (a .value) (b .value) fa fb p,
+      aim-stays (x .ram) s (a .value) (b .value) fa fb p,
+    )
     (sym (shows-without-rollover s b x g h))
 
 -- RAM outside the stack, in both orders
@@ -135,7 +131,7 @@ module _
         same-at i da mb ram (after-length ram s b) (eb ∙ untouched i db ram h) ∙ sym ea ∙ sym (untouched i db ma h))
         (one-avoids ram s a b fa fb p i)
 
-    pub orders-alike : Alike (stackWindow ram s) (afterMessage mb s a) (afterMessage ma s b)
+    pub orders-alike : Alike (Outside (stackWindow ram s)) (afterMessage mb s a) (afterMessage ma s b)
     unfolding stackPointer
     orders-alike =
         record {

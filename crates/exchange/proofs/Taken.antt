@@ -1,34 +1,36 @@
 -- No well-formed message is refused where the whole-area check passes; what one such message leaves and shows.
-use Prim.Native.Nat.{_≤_}
+use Prim.Native.Nat.{ℕ, _≤_}
 use native.Mathlib.Omega.{arith}
-use mathlib.Core.Path.{_≡_, refl}
+use mathlib.Core.Path.{_≡_, ap, _∙_}
 use mathlib.Core.Bool.{true, false, not, _&&_}
 use mathlib.Core.List.{List, [], _∷_}
 use lib.ListN.{length}
-use borrow.Author.Tests.{not-true, le-ltb}
-use Rattle.records.specs.declared.value.Record.{Record}
+use borrow.Author.Tests.{not-true, le-ltb, eq-eqb}
 use Rattle.words.specs.declared.settings.Settings.{Settings}
 use Rattle.words.specs.Command.{isModeSubaddress}
+use Rattle.words.specs.Refusal.{firstOf}
 use Rattle.words.specs.Settings.{isNotOurs}
-use Rattle.records.specs.Value.{keepsLayout}
 use Rattle.words.proofs.Basics.{and-left, and-right}
-use Rattle.words.proofs.Refusals.{accepted}
+use Rattle.memory.specs.State.{State}
+use Rattle.memory.proofs.Writes.{length-apply}
 use Rattle.cells.specs.Stack.{stackWindow}
 use Rattle.cells.proofs.Sound.{cell-facts-sound}
 use Rattle.cells.proofs.Block.{stack-facts-sound}
 use Rattle.area.proofs.Whole.{AreaFine}
 use Rattle.arrival.specs.Target.{cellFor, targetOf}
-use Rattle.decide.specs.Plan.{planOf}
+use Rattle.decide.specs.Plan.{planWith}
 use Rattle.carry.specs.Writes.{descriptorOf}
 use Rattle.carry.specs.Reply.{replyWrites, replyWords}
-use Rattle.message.specs.Answer.{cellUnsound, groundsFor, refusalFor, refusalOfValue, acceptedWith, rememberedAfterPlan, acceptedOutcome, outcomeFor, ramFor, replyFor}
-use Rattle.message.specs.Message.{outcomeOfValue, ramAfterValue, replyAfterValue}
-use Rattle.message.specs.Run.{State, stepValue, effectOf}
-use Rattle.message.proofs.Sure.{Sure, fine-sure}
-use Rattle.message.proofs.Step.{afterMessage, deedFor}
-use Rattle.message.proofs.Kept.{Kept, message-keeps, fine-kept}
-use Rattle.carry.proofs.Writes.{length-apply}
 use Rattle.carry.proofs.Replied.{reply-front, sent-few}
+use Rattle.message.specs.Heard.{Heard}
+use Rattle.message.specs.Tests.{cellUnsound, refusalFor}
+use Rattle.message.specs.Answer.{acceptedWith}
+use Rattle.message.specs.Message.{rememberedWith, carriedOut, step}
+use Rattle.message.specs.Run.{effectOf}
+use Rattle.message.proofs.Sure.{Sure, fine-sure}
+use Rattle.message.proofs.Refusals.{accepted-answer, accepted-state}
+use Rattle.message.proofs.Step.{afterMessage, deedFor, madePlan, plan-made}
+use Rattle.message.proofs.Kept.{Kept, message-keeps, fine-kept}
 use Rattle.exchange.specs.Condition.{wellFormed, allWellFormed}
 use Rattle.exchange.specs.After.{overFront}
 
@@ -37,94 +39,99 @@ pub record Good (s : Settings) (x : State) : Type 0 where
   pub area : AreaFine (x .ram) s
   pub room : 33 ≤ length (x .reply)
 
-pub record Formed (s : Settings) (v : Record) : Type 0 where
-  pub layout : keepsLayout v ≡ true
-  pub ours : isNotOurs s (v .command) ≡ false
-  pub subaddress : isModeSubaddress (v .command) ≡ false
+pub record Formed (s : Settings) (v : Heard) : Type 0 where
+  pub long : v .badLength ≡ false
+  pub layout : v .badLayout ≡ false
+  pub ours : isNotOurs s (v .value .command) ≡ false
+  pub subaddress : isModeSubaddress (v .value .command) ≡ false
 
-pub formed : (s : Settings) (v : Record) → wellFormed s v ≡ true → Formed s v
+pub formed : (s : Settings) (v : Heard) → wellFormed s v ≡ true → Formed s v
 unfolding wellFormed
 formed s v e =
-    let theirs = not (isNotOurs s (v .command)) in
-    let plain = not (isModeSubaddress (v .command)) in
-    let r = and-right (keepsLayout v) (theirs && plain) e in
+    let long = not (v .badLength) in
+    let kept = not (v .badLayout) in
+    let ours = not (isNotOurs s (v .value .command)) in
+    let plain = not (isModeSubaddress (v .value .command)) in
+    let l = and-left (long && kept) (ours && plain) e in
+    let r = and-right (long && kept) (ours && plain) e in
     record {
-      layout = and-left (keepsLayout v) (theirs && plain) e;
-      ours = not-true _ (and-left theirs plain r);
-      subaddress = not-true _ (and-right theirs plain r);
+      long = not-true _ (and-left long kept l);
+      layout = not-true _ (and-right long kept l);
+      ours = not-true _ (and-left ours plain r);
+      subaddress = not-true _ (and-right ours plain r);
     }
 
-abbrev pub AllFormed : Settings → List Record → Type 0
+abbrev pub AllFormed : Settings → List Heard → Type 0
 AllFormed s [] = Unit {0}
 AllFormed s (v ∷ vs) = Formed s v × AllFormed s vs
 
-pub all-formed : (s : Settings) (vs : List Record) → allWellFormed s vs ≡ true → AllFormed s vs
+pub all-formed : (s : Settings) (vs : List Heard) → allWellFormed s vs ≡ true → AllFormed s vs
 unfolding allWellFormed
 all-formed s [] e = tt
 all-formed s (v ∷ vs) e =
     (formed s v (and-left (wellFormed s v) (allWellFormed s vs) e), all-formed s vs (and-right (wellFormed s v) (allWellFormed s vs) e))
 
 -- what one accepted message leaves, and what it shows
-pub record Done (s : Settings) (v : Record) (x : State) : Type 0 where
-  pub ram : stepValue s v x .ram ≡ afterMessage (x .ram) s v
-  pub reply : stepValue s v x .reply ≡ overFront (replyWords (x .ram) (deedFor (x .ram) s v)) (x .reply)
-  pub long : length (stepValue s v x .reply) ≡ length (x .reply)
+pub record Done (s : Settings) (v : Heard) (x : State) : Type 0 where
+  pub ram : step s v x .ram ≡ afterMessage (x .ram) s (v .value)
+  pub reply : step s v x .reply ≡ overFront (replyWords (x .ram) (deedFor (x .ram) s (v .value))) (x .reply)
+  pub long : length (step s v x .reply) ≡ length (x .reply)
   pub remembered :
-      stepValue s v x .remembered ≡ record { command = v .command; status = deedFor (x .ram) s v .report .status }
+      step s v x .remembered ≡ record { command = v .value .command; status = deedFor (x .ram) s (v .value) .status }
   pub effect :
       effectOf s v x
       ≡ record {
-        answer = acceptedWith (planOf (x .ram) s v);
-        sends = replyWords (x .ram) (deedFor (x .ram) s v);
-        descriptor = descriptorOf (deedFor (x .ram) s v) v;
+        answer = acceptedWith (madePlan (x .ram) s (v .value));
+        sends = replyWords (x .ram) (deedFor (x .ram) s (v .value));
+        descriptor = descriptorOf (deedFor (x .ram) s (v .value)) (v .value);
       }
 
-module _ (s : Settings) (v : Record) (x : State) (g : Good s x) (f : Formed s v) where
-  pub sure : Sure (x .ram) s (v .command)
-  sure = fine-sure (x .ram) s (v .command) (g .area) (f .subaddress)
+module _ (s : Settings) (v : Heard) (x : State) (g : Good s x) (f : Formed s v) where
+  pub sure : Sure (x .ram) s (v .value .command)
+  sure = fine-sure (x .ram) s (v .value .command) (g .area) (f .subaddress)
 
-  -- no case of the table holds
-  pub not-refused : refusalOfValue (x .ram) (length (x .reply)) s v ≡ 0
-  unfolding refusalFor groundsFor cellUnsound
+  -- no test holds
+  pub not-refused : refusalFor s v x ≡ 0
+  unfolding refusalFor firstOf cellUnsound
   not-refused =
       let ram = x .ram in
-      accepted (groundsFor ram (length (x .reply)) s false (not (keepsLayout v)) (v .command)) .1
-      (record {
-        ram = g .area .accepted .ram-accepted;
-        reply = le-ltb (length (x .reply)) 33 (g .room);
-        settings = g .area .accepted .settings-accepted;
-        length = refl;
-        layout = rw (f .layout);
-        address = f .ours;
-        subaddress = f .subaddress;
-        stack = rw (stack-facts-sound ram s (g .area .accepted .stack-sound));
-        cell = rw (cell-facts-sound (length ram) (stackWindow ram s) (cellFor ram s (v .command)) (sure .cell));
-      })
+      rw (
+        g .area .accepted .ram-accepted,
+        le-ltb (length (x .reply)) 33 (g .room),
+        g .area .accepted .settings-accepted,
+        f .long,
+        f .layout,
+        f .ours,
+        f .subaddress,
+        stack-facts-sound ram s (g .area .accepted .stack-sound),
+        cell-facts-sound (length ram) (stackWindow ram s) (cellFor ram s (v .value .command)) (sure .cell),
+      )
 
   pub done : Done s v x
-  unfolding stepValue effectOf ramAfterValue replyAfterValue outcomeOfValue ramFor replyFor outcomeFor acceptedOutcome rememberedAfterPlan planOf overFront
+  unfolding effectOf carriedOut rememberedWith planWith overFront
   done =
-      let d = deedFor (x .ram) s v in
-      let z = not-refused in
+      let d = deedFor (x .ram) s (v .value) in
+      let e = accepted-state s v x not-refused in
+      let p = plan-made s (x .ram) (x .remembered) (v .value) in
       record {
-        ram = rw z;
+        ram = rw (e, p);
         reply =
-            rw z
+            rw (e, p)
             (reply-front (x .ram) d (x .reply)
-            (omega (arith, sent-few s (targetOf (x .ram) s (v .command)) v, g .room)));
-        long = rw z (length-apply (replyWrites (x .ram) d) (x .reply));
-        remembered = rw z;
-        effect = rw z;
+            (omega (arith, sent-few s (targetOf (x .ram) s (v .value .command)) (v .value), g .room)));
+        long = rw (e, p) (length-apply (replyWrites (x .ram) d) (x .reply));
+        remembered = rw (e, p);
+        effect = rw (accepted-answer s v x not-refused, eq-eqb (refusalFor s v x) 0 not-refused, p);
       }
 
   -- and the next message finds such a state again
-  pub good-next : Good s (stepValue s v x)
+  pub good-next : Good s (step s v x)
   good-next =
       record {
-        area = rw (done .ram) (fine-kept (x .ram) s v sure (g .area));
+        area = rw (done .ram) (fine-kept (x .ram) s (v .value) sure (g .area));
         room = rw (done .long) (g .room);
       }
 
   -- whose windows and stack's block are the same
-  pub step-keeps : Kept s (x .ram) (stepValue s v x .ram)
-  step-keeps = rw (done .ram) (message-keeps (x .ram) s v sure)
+  pub step-keeps : Kept s (x .ram) (step s v x .ram)
+  step-keeps = rw (done .ram) (message-keeps (x .ram) s (v .value) sure)

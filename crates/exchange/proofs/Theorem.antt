@@ -6,7 +6,6 @@ use mathlib.Core.List.{List}
 use lib.ListN.{length}
 use lib.Dec.{ltb, eqb}
 use borrow.Author.Tests.{eqb-true, ltb-true, ltb-false, le-leb, lt-ltb, not-true}
-use Rattle.records.specs.declared.value.Record.{Record}
 use Rattle.words.specs.declared.settings.Settings.{Settings}
 use Rattle.words.proofs.Basics.{and-left, and-right}
 use Rattle.windows.specs.declared.window.Window.{Window}
@@ -14,8 +13,10 @@ use Rattle.area.specs.Area.{checkArea}
 use Rattle.cells.specs.Stack.{stackWindow}
 use Rattle.area.proofs.Whole.{area-fine}
 use Rattle.windows.proofs.Meets.{Outside}
-use Rattle.message.specs.Answer.{replyRefused}
-use Rattle.message.specs.Run.{State, run}
+use Rattle.message.specs.Heard.{Heard}
+use Rattle.message.specs.Tests.{replyRefused}
+use Rattle.memory.specs.State.{State}
+use Rattle.message.specs.Run.{run}
 use Rattle.exchange.specs.Order.{exchangeAll}
 use Rattle.exchange.specs.Condition.{allWellFormed, allowedAll}
 use Rattle.exchange.specs.After.{keptAfter, stackAfter, rememberedAfter, repliedAfter}
@@ -31,14 +32,14 @@ outside w a e l h =
     let i : isInside w a ≡ true = rw (le-leb (w .start) a l, lt-ltb a (w .start + w .size) h) in true≢false (cc)
 
 -- what is asked, part by part
-record Asked (s : Settings) (x : State) (vs : List Record) (places : List ℕ) : Type 0 where
+record Asked (s : Settings) (x : State) (vs : List Heard) (places : List ℕ) : Type 0 where
   area : checkArea (x .ram) s .number ≡ 0
   room : 33 ≤ length (x .reply)
   some : 0 < length vs
   formed : allWellFormed s vs ≡ true
   allowed : allowedAll (x .ram) s places vs ≡ true
 
-taken-apart : (s : Settings) (x : State) (vs : List Record) (places : List ℕ) → asked s x vs places ≡ true → Asked s x vs places
+taken-apart : (s : Settings) (x : State) (vs : List Heard) (places : List ℕ) → asked s x vs places ≡ true → Asked s x vs places
 unfolding asked startsWell takesWell
 taken-apart s x vs places e =
     let sound = eqb (checkArea (x .ram) s .number) 0 in

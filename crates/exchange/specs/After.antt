@@ -2,36 +2,37 @@
 use Prim.Native.Nat.{ℕ, _-_}
 use mathlib.Core.List.{List, [], _∷_, _++_, map}
 use lib.ListN.{length, getD, drop}
-use Rattle.records.specs.declared.value.Record.{Record}
 use Rattle.words.specs.declared.settings.Settings.{Settings}
-use Rattle.words.specs.declared.settings.Remembered.{Remembered}
+use Rattle.words.specs.declared.remembered.Remembered.{Remembered}
 use Rattle.cells.specs.Stack.{stackWindow}
-use Rattle.message.specs.Run.{State, Effect, effects}
+use Rattle.memory.specs.State.{State}
+use Rattle.message.specs.Heard.{Heard}
+use Rattle.message.specs.Run.{Effect, effects}
 use Rattle.exchange.specs.Order.{exchangeAll}
 use Rattle.exchange.specs.Descriptors.{stackWord}
 use Rattle.exchange.specs.Kept.{withoutStackRollover}
 
 -- "Each message keeps its reply, descriptor and interrupt word, except the stack-rollover bit.": what each message shows in the
 -- old order, followed through the same exchanges
-unfoldable pub keptAfter : Settings → State → List Record → List ℕ → List Effect
-keptAfter s x vs places = exchangeAll places (map withoutStackRollover (effects s vs x))
+unfoldable pub keptAfter : Settings → State → List Heard → List ℕ → List Effect
+keptAfter s x hs places = exchangeAll places (map withoutStackRollover (effects s hs x))
 
 -- "The stack holds the last descriptors that fit, in the new order": the word at place j of its block
-unfoldable pub stackAfter : Settings → State → List Record → List ℕ → ℕ → ℕ
-stackAfter s x vs places j =
-    stackWord (x .ram) (stackWindow (x .ram) s) (map (λ e. e .descriptor) (effects s (exchangeAll places vs) x)) j
+unfoldable pub stackAfter : Settings → State → List Heard → List ℕ → ℕ → ℕ
+stackAfter s x hs places j =
+    stackWord (x .ram) (stackWindow (x .ram) s) (map (λ e. e .descriptor) (effects s (exchangeAll places hs) x)) j
 
 abbrev pub lastWord : List ℕ → ℕ
 lastWord ws = getD ws (length ws - 1) 0
 
 -- what the last message leaves to be remembered
-unfoldable pub rememberedLast : List Record → List Effect → Remembered
-rememberedLast vs es =
-    record { command = lastWord (map (λ v. v .command) vs); status = lastWord (map (λ e. e .answer .status) es) }
+unfoldable pub rememberedLast : List Heard → List Effect → Remembered
+rememberedLast hs es =
+    record { command = lastWord (map (λ h. h .value .command) hs); status = lastWord (map (λ e. e .answer .status) es) }
 
 -- "the remembered command and status are the new last message's."
-unfoldable pub rememberedAfter : Settings → State → List Record → List ℕ → Remembered
-rememberedAfter s x vs places = rememberedLast (exchangeAll places vs) (effects s (exchangeAll places vs) x)
+unfoldable pub rememberedAfter : Settings → State → List Heard → List ℕ → Remembered
+rememberedAfter s x hs places = rememberedLast (exchangeAll places hs) (effects s (exchangeAll places hs) x)
 
 -- words put over the front of a buffer: "its other words keep their contents"
 unfoldable pub overFront : List ℕ → List ℕ → List ℕ
@@ -43,5 +44,5 @@ repliedAll [] buffer = buffer
 repliedAll (e ∷ es) buffer = repliedAll es (overFront (e .sends) buffer)
 
 -- the reply buffer: what each message sends goes over its front, in the new order
-unfoldable pub repliedAfter : Settings → State → List Record → List ℕ → List ℕ
-repliedAfter s x vs places = repliedAll (effects s (exchangeAll places vs) x) (x .reply)
+unfoldable pub repliedAfter : Settings → State → List Heard → List ℕ → List ℕ
+repliedAfter s x hs places = repliedAll (effects s (exchangeAll places hs) x) (x .reply)

@@ -1,41 +1,45 @@
--- Lists of messages with an exchange, to be computed: two that demand 3 speaks of, and one for each condition of it that fails.
+-- Lists of messages with an exchange, to be computed: two that demand 3 speaks of, and others of each of
+-- which one condition fails.
 use Prim.Native.Nat.{ℕ, _-_}
 use mathlib.Core.Bool.{Bool, true}
 use mathlib.Core.List.{List, [], _∷_, _++_, map}
 use lib.ListN.{length, getD, replicate}
-use Rattle.records.specs.declared.value.Record.{Record}
 use Rattle.words.specs.declared.settings.Settings.{Settings}
-use Rattle.words.specs.declared.settings.Remembered.{Remembered}
-use Rattle.words.specs.Settings.{nothingRemembered}
-use Rattle.carry.specs.Writes.{Write, applyWrites}
-use Rattle.message.specs.Run.{State, run, Effect, effects}
-use Rattle.message.specs.Edges.{put, terminal}
+use Rattle.words.specs.declared.remembered.Remembered.{Remembered}
+use Rattle.words.specs.Remembered.{nothingRemembered}
+use Rattle.words.specs.Settings.{programSettings}
+use Rattle.memory.specs.Writes.{Write, applyWrites}
+use Rattle.memory.specs.State.{State, stateOf}
+use Rattle.message.specs.Heard.{Heard, heardValue}
+use Rattle.message.specs.Run.{run, Effect, effects}
+use Rattle.message.specs.Edges.{put}
 use Rattle.exchange.specs.Order.{exchangeAll}
 use Rattle.exchange.specs.After.{keptAfter, stackAfter, rememberedAfter}
 use Rattle.exchange.specs.Exchanged.{asked}
 
--- RT 5, area A, stack 256, overwrite-invalid on and the rest off, as in the trace program
-unfoldable pub bench : Settings
-bench = terminal true
+-- as in the trace program
+abbrev pub bench : Settings
+bench = programSettings
 
 -- every receive and transmit pointer is 0400, all else 0; the whole-area check passes
 unfoldable pub plainRam : List ℕ
 plainRam = replicate 0x140 0 ++ (replicate 64 0x400 ++ replicate (4096 - 0x180) 0)
 
 -- a message without faults flagged: command, time tag, words seen
-abbrev pub heard : ℕ → ℕ → List ℕ → Record
+abbrev pub heard : ℕ → ℕ → List ℕ → Heard
 heard command tag words =
-    record { command = command; tag = tag; flags = 0; count = length words; words = words ++ replicate (32 - length words) 0 }
+    heardValue
+    (record { command = command; tag = tag; flags = 0; count = length words; words = words ++ replicate (32 - length words) 0 })
 
 pub record Case : Type 0 where
   pub ram : List Write
   pub room : ℕ
-  pub messages : List Record
+  pub messages : List Heard
   pub places : List ℕ
   pub look : List ℕ
 
 unfoldable pub startOf : Case → State
-startOf c = record { ram = applyWrites (c .ram) plainRam; reply = replicate (c .room) 0; remembered = nothingRemembered }
+startOf c = stateOf (applyWrites (c .ram) plainRam) (replicate (c .room) 0) nothingRemembered
 
 -- one order of a case: words of RAM at the places to look at; for each message its number, what it sends and its interrupt word;
 -- and what is remembered
@@ -205,7 +209,7 @@ broken =
       room = 33;
       messages =
           heard 0x2861 7 (5 ∷ [])
-          ∷ record { command = 0x2881; tag = 8; flags = 0; count = 34; words = replicate 32 6 }
+          ∷ heardValue (record { command = 0x2881; tag = 8; flags = 0; count = 34; words = replicate 32 6 })
           ∷ [];
       places = 0 ∷ [];
       look = 0x100 ∷ [];

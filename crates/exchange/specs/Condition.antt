@@ -7,19 +7,21 @@ use Rattle.records.specs.declared.value.Record.{Record}
 use Rattle.words.specs.declared.settings.Settings.{Settings}
 use Rattle.words.specs.Command.{transmits, isModeSubaddress}
 use Rattle.words.specs.Settings.{isNotOurs}
-use Rattle.records.specs.Value.{keepsLayout}
 use Rattle.windows.specs.Window.{windowsMeet}
 use Rattle.arrival.specs.Target.{targetOf}
+use Rattle.message.specs.Heard.{Heard}
 use Rattle.exchange.specs.Order.{swapAt}
 
--- "well-formed data messages for this terminal": the record keeps its layout, the address is ours or broadcast, the
+-- "well-formed data messages for this terminal": the record has its length and keeps its layout, the address is ours or broadcast, the
 -- subaddress is 1 to 30
-unfoldable pub wellFormed : Settings → Record → Bool
-wellFormed s v = keepsLayout v && (not (isNotOurs s (v .command)) && not (isModeSubaddress (v .command)))
+unfoldable pub wellFormed : Settings → Heard → Bool
+wellFormed s h =
+    (not (h .badLength) && not (h .badLayout))
+    && (not (isNotOurs s (h .value .command)) && not (isModeSubaddress (h .value .command)))
 
-unfoldable pub allWellFormed : Settings → List Record → Bool
+unfoldable pub allWellFormed : Settings → List Heard → Bool
 allWellFormed s [] = true
-allWellFormed s (v ∷ vs) = wellFormed s v && allWellFormed s vs
+allWellFormed s (h ∷ hs) = wellFormed s h && allWellFormed s hs
 
 -- "if they use different cells whose windows don't meet, or that both only send": a transmit command uses a transmit cell,
 -- which only sends
@@ -30,13 +32,13 @@ mayExchange ram s a b =
     || (transmits (a .command) && transmits (b .command)))
 
 -- places n and n + 1 of the list hold two such messages
-unfoldable pub allowedAt : List ℕ → Settings → ℕ → List Record → Bool
+unfoldable pub allowedAt : List ℕ → Settings → ℕ → List Heard → Bool
 allowedAt ram s n [] = false
 allowedAt ram s n (a ∷ []) = false
-allowedAt ram s zero (a ∷ b ∷ rest) = mayExchange ram s a b
+allowedAt ram s zero (a ∷ b ∷ rest) = mayExchange ram s (a .value) (b .value)
 allowedAt ram s (suc n) (a ∷ b ∷ rest) = allowedAt ram s n (b ∷ rest)
 
 -- every exchange, each in the list as it stands then; cells and windows are those of the start
-unfoldable pub allowedAll : List ℕ → Settings → List ℕ → List Record → Bool
-allowedAll ram s [] vs = true
-allowedAll ram s (n ∷ ns) vs = allowedAt ram s n vs && allowedAll ram s ns (swapAt n vs)
+unfoldable pub allowedAll : List ℕ → Settings → List ℕ → List Heard → Bool
+allowedAll ram s [] hs = true
+allowedAll ram s (n ∷ ns) hs = allowedAt ram s n hs && allowedAll ram s ns (swapAt n hs)

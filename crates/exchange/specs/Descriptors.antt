@@ -1,4 +1,4 @@
--- The stack block after a list of descriptors. "The stack holds the last descriptors that fit."
+-- The stack block after a list of descriptors. "The stack holds the last descriptors that fit".
 use Prim.Native.Nat.{ℕ, _+_, _*_, _-_, _/_, _%_}
 use mathlib.Core.Bool.{cond}
 use mathlib.Core.List.{List, []}

@@ -1,4 +1,4 @@
--- Exchanging neighbours of a list. "Exchange neighbours as often as you like."
+-- Exchanging neighbours of a list. "Exchange neighbours as often as you like".
 use Prim.Native.Nat.{ℕ, zero, suc}
 use mathlib.Core.List.{List, [], _∷_}
 

@@ -1,5 +1,6 @@
 // What demand 3 asks of a message, and of two that are neighbours.
 ghost use mathlib.Core.Path.{_≡_};
+ghost use Rattle.message.specs.Heard.{heardValue};
 ghost use Rattle.exchange.specs.Condition.{wellFormed, mayExchange};
 use arrival::target::target_of;
 use records::value::Record;
@@ -13,9 +14,9 @@ use words::command::transmit;
 use words::settings::Settings;
 use words::settings::is_not_ours;
 
-// A well-formed data message for this terminal: with a sound cell and stack, and room for the reply, it is never refused.
+// A well-formed data message for this terminal: where the whole-area check passes and there is room for the reply, it is not refused.
 pub fn well_formed(s: Settings, v: Record) -> bool
-    ensures { λ r. ⌜ r ≡ wellFormed s v ⌝ }
+    ensures { λ r. ⌜ r ≡ wellFormed s (heardValue v) ⌝ }
 {
     both(
         keeps_layout(v),

@@ -1,15 +1,26 @@
 -- The inputs determine the answer and every lent word: for each public function, any two results that its contract allows
 -- are equal. Each line speaks of the contract as the checker reads it (`Reads.Post`), so that none can drift from its function.
+use mathlib.Core.Path.{refl}
 use Rattle.words.proofs.Settled.{determined, Settled}
 use Rattle.message.proofs.serve
+use Rattle.message.proofs.tests
 
--- the outcome, every word of RAM and every word of the reply
+-- the answer, and every word of RAM, reply and remembered state
 pub message-from-value-settled :
     Settled 2 serve.message_from_value.Kinds.ps serve.message_from_value.Kinds.r serve.message_from_value.Reads.Post
 message-from-value-settled κs a x y v w p q =
-    (determined (p .0) (q .0), λ i. (determined (p .1 .0) (q .1 .0) i, (determined (p .1 .1) (q .1 .1) i, v .1 .1)))
+    let state = determined (p .1) (q .1) in (
+      λ i. record { answer = determined (p .0) (q .0) i; remembered = state i .remembered },
+      λ i. (state i .ram, (state i .reply, v .1 .1)),
+    )
 
 pub message-from-bytes-settled :
     Settled 3 serve.message_from_bytes.Kinds.ps serve.message_from_bytes.Kinds.r serve.message_from_bytes.Reads.Post
 message-from-bytes-settled κs a x y v w p q =
-    (determined (p .0) (q .0), λ i. (determined (p .1 .0) (q .1 .0) i, (determined (p .1 .1) (q .1 .1) i, v .1 .1)))
+    let state = determined (p .1) (q .1) in (
+      λ i. record { answer = determined (p .0) (q .0) i; remembered = state i .remembered },
+      λ i. (state i .ram, (state i .reply, v .1 .1)),
+    )
+
+pub late-refusal-settled : Settled 1 tests.late_refusal.Kinds.ps tests.late_refusal.Kinds.r tests.late_refusal.Reads.Post
+late-refusal-settled κs a x y v w p q = (determined p q, refl)

@@ -26,10 +26,11 @@ use Rattle.area.proofs.Listed.{read-listed}
 use Rattle.memory.proofs.Places.{lookup-between, control-between, stack-pointer-between, busy-between, illegal-between, lookup-differs, lookup-not-control, lookup-not-stack-pointer, control-not-stack-pointer}
 use Rattle.area.proofs.Whole.{AreaFine, SoundAt}
 use Rattle.arrival.specs.Target.{cellFor, targetOf}
-use Rattle.deed.specs.Deed.{actOf, motionOf, moves}
-use Rattle.decide.specs.Plan.{deedOf}
+use Rattle.deed.specs.Act.{actOf}
+use Rattle.deed.specs.Motion.{motionOf, moves}
+use Rattle.deed.specs.Deed.{deedWith, deedOf}
 use Rattle.message.proofs.Sure.{Sure}
-use Rattle.deed.proofs.Motion.{single-stays, Contained, motion-contained}
+use Rattle.deed.proofs.Contained.{single-stays, Contained, motion-contained}
 use Rattle.message.proofs.Step.{afterMessage, deedFor, after-length, cell-low, target-sized, tables-stay, illegal-stay, stack-moves, lookup-after}
 
 -- what one RAM keeps of another
@@ -65,14 +66,15 @@ module _ (ram : List ℕ) (s : Settings) (v : Record) (f : Sure ram s (v .comman
   -- the message's own cell moves its pointer inside its window
   pub own-contained :
       Contained (targetOf ram s (v .command) .cell .scheme) (targetOf ram s (v .command) .cell .pointer)
-      (deedFor ram s v .motion .after)
-  unfolding deedOf motionOf targetOf
+      (deedFor ram s v .after)
+  unfolding deedOf deedWith motionOf targetOf
   own-contained =
       let t = targetOf ram s (v .command) in
       let a = actOf s t v in
       motion-contained (t .cell .scheme) (t .cell .pointer) (a .k)
       (moves (t .cell .scheme) (a .valid) (s .«overwrite_invalid») (a .k))
       (target-sized ram s v)
+      (omega (arith, f .cell .inside, f .most))
       (single-stays (t .cell .scheme) (a .valid) (s .«overwrite_invalid») (a .k))
 
   control-stays : (sub : ℕ) → sub < 32 → getD after (controlPlace (s .area) sub) 0 ≡ getD ram (controlPlace (s .area) sub) 0
@@ -103,7 +105,7 @@ module _ (ram : List ℕ) (s : Settings) (v : Record) (f : Sure ram s (v .comman
       cell-words after ram (s .area) kind sub (lookup-stays (cellNumber kind sub) (number-below kind sub h) n) (control-stays sub h)
 
   -- its own cell has the pointer where rule 5 leaves it, and is otherwise as it was
-  pub own-pointer : cellFor after s (v .command) .pointer ≡ deedFor ram s v .motion .after
+  pub own-pointer : cellFor after s (v .command) .pointer ≡ deedFor ram s v .after
   unfolding cellFor cellAt targetOf
   own-pointer = lookup-after ram s v f
 

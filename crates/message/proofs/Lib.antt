@@ -1,11 +1,10 @@
 pub mod Sure
 pub mod Step
 pub mod Kept
-pub mod Only
-pub mod Accepted
 pub mod Refusals
+pub mod Only
 pub mod InTurn
-pub mod FromRecord
 pub mod FromBytes
+pub mod Carried
 pub mod Edges
 pub mod Determined

@@ -20,40 +20,61 @@ use Rattle.windows.proofs.Wrap.{place-from, place-below, places-differ}
 use Rattle.windows.proofs.Meets.{Outside}
 use Rattle.cells.proofs.Sizes.{Sized, cell-sized, window-room, window-nonempty}
 use Rattle.cells.proofs.Sound.{sound-address, sound-place}
-use Rattle.cells.proofs.Block.{stack-word-from, stack-word-below, stack-address, tables-off, illegal-off}
+use Rattle.cells.proofs.Block.{stack-nonempty, stack-word-from, stack-word-below, stack-address, tables-off, illegal-off}
 use Rattle.memory.proofs.Numbers.{number-below}
 use Rattle.memory.proofs.Places.{lookup-between, stack-pointer-between, lookup-not-stack-pointer, ordinary-not-lookup, ordinary-not-stack-pointer}
-use Rattle.decide.specs.declared.plan.Deed.{Deed}
+use Rattle.deed.specs.declared.deed.Deed.{Deed}
 use Rattle.arrival.specs.Target.{cellFor, targetOf}
-use Rattle.deed.specs.Deed.{wordsStored, actWith, actOf, motionWith, motionOf}
-use Rattle.decide.specs.Plan.{deedOf, entryOf, planOf}
-use Rattle.decide.proofs.Reach.{plan-stored}
-use Rattle.carry.specs.Writes.{applyWrites, writesTo, dataWrites, pointerWrites, descriptorOf, entryWrites, stackPointerWrites, deedWrites, stackWrites, writesOf}
-use Rattle.carry.proofs.Writes.{apply-append, length-apply}
-use Rattle.carry.proofs.Footprint.{Avoids, untouched, avoids-append, avoids-places, written}
+use Rattle.deed.specs.Act.{wordsStored, actWith, actOf}
+use Rattle.deed.specs.Motion.{motionWith, motionOf}
+use Rattle.words.specs.declared.remembered.Remembered.{Remembered}
+use Rattle.decide.specs.declared.plan.Plan.{Plan}
+use Rattle.decide.specs.Plan.{planWith, planOf}
+use Rattle.deed.specs.Deed.{deedWith, deedOf}
+use Rattle.decide.specs.Entry.{entryOf}
+use Rattle.deed.proofs.Reach.{deed-stored}
+use Rattle.deed.proofs.Contained.{pointer-exact}
+use Rattle.carry.specs.Writes.{dataWrites, pointerWrites, descriptorOf, entryWrites, stackPointerWrites, deedWrites, stackWrites, writesOf}
+use Rattle.memory.specs.Writes.{applyWrites, writesTo}
+use Rattle.memory.proofs.Writes.{apply-append, length-apply}
+use Rattle.memory.proofs.Footprint.{Avoids, untouched, avoids-append, avoids-places, written}
 use Rattle.message.proofs.Sure.{Sure}
+
+-- the plan of a data message: what is remembered plays no part in it
+abbrev pub deedFor : List ℕ → Settings → Record → Deed
+deedFor ram s v = deedOf s (targetOf ram s (v .command)) v
+
+abbrev pub madePlan : List ℕ → Settings → Record → Plan
+madePlan ram s v = planWith (deedFor ram s v) (entryOf ram s)
+
+pub plan-made :
+    (s : Settings) (ram : List ℕ) (remembered : Remembered) (v : Record) → planOf s ram remembered v ≡ madePlan ram s v
+unfolding planOf
+plan-made s ram remembered v = refl
 
 -- RAM after an accepted message, and after its deed alone
 abbrev pub afterMessage : List ℕ → Settings → Record → List ℕ
-afterMessage ram s v = applyWrites (writesOf s (planOf ram s v) v) ram
-
-abbrev pub deedFor : List ℕ → Settings → Record → Deed
-deedFor ram s v = deedOf s (targetOf ram s (v .command)) v
+afterMessage ram s v = applyWrites (writesOf s (madePlan ram s v) v) ram
 
 abbrev pub afterDeed : List ℕ → Settings → Record → List ℕ
 afterDeed ram s v = applyWrites (deedWrites s (deedFor ram s v) v) ram
 
 module _ (ram : List ℕ) (s : Settings) (v : Record) where
   after-parts :
-      afterMessage ram s v ≡ applyWrites (stackWrites s (planOf ram s v) v) (afterDeed ram s v)
-  unfolding writesOf planOf
-  after-parts = apply-append (deedWrites s (deedFor ram s v) v) (stackWrites s (planOf ram s v) v) ram
+      afterMessage ram s v ≡ applyWrites (stackWrites s (madePlan ram s v) v) (afterDeed ram s v)
+  unfolding writesOf planWith
+  after-parts = apply-append (deedWrites s (deedFor ram s v) v) (stackWrites s (madePlan ram s v) v) ram
 
   pub after-length : length (afterMessage ram s v) ≡ length ram
-  after-length = length-apply (writesOf s (planOf ram s v) v) ram
+  after-length = length-apply (writesOf s (madePlan ram s v) v) ram
 
   pub deed-length : length (afterDeed ram s v) ≡ length ram
   deed-length = length-apply (deedWrites s (deedFor ram s v) v) ram
+
+  -- the deed's window is the target's
+  pub deed-window : deedFor ram s v .window ≡ targetOf ram s (v .command) .window
+  unfolding deedOf deedWith
+  deed-window = refl
 
   -- the cell's number is one of the lookup table's
   pub cell-low : targetOf ram s (v .command) .number < 96
@@ -69,8 +90,8 @@ module _ (ram : List ℕ) (s : Settings) (v : Record) where
   target-some = window-nonempty (cellFor ram s (v .command) .scheme) (cellFor ram s (v .command) .pointer) (target-sized)
 
   -- "Receive stores ..": a transmit stores nothing
-  stored-none : transmits (v .command) ≡ true → deedFor ram s v .act .stored ≡ 0
-  unfolding deedOf actOf actWith wordsStored
+  pub stored-none : transmits (v .command) ≡ true → deedFor ram s v .stored ≡ 0
+  unfolding deedOf deedWith actOf actWith wordsStored
   stored-none e = rw e
 
   pub pointer-read :
@@ -79,29 +100,29 @@ module _ (ram : List ℕ) (s : Settings) (v : Record) where
   unfolding targetOf cellFor cellAt
   pointer-read = refl
 
-  stays : deedFor ram s v .motion .moves ≡ false → deedFor ram s v .motion .after ≡ targetOf ram s (v .command) .cell .pointer
-  unfolding deedOf motionOf motionWith
+  stays : deedFor ram s v .moves ≡ false → deedFor ram s v .after ≡ targetOf ram s (v .command) .cell .pointer
+  unfolding deedOf deedWith motionOf motionWith
   stays e = rw e
 
   data-avoids :
       (a : ℕ) →
       (transmits (v .command) ≡ true) ⊎ Outside (targetOf ram s (v .command) .window) a →
-      Avoids a (dataWrites (targetOf ram s (v .command) .window) (v .words) (deedFor ram s v .act .stored))
+      Avoids a (dataWrites (targetOf ram s (v .command) .window) (v .words) (deedFor ram s v .stored))
   unfolding writesTo
   data-avoids a (inl e) = rw (stored-none e) tt
   data-avoids a (inr h) =
       let w = targetOf ram s (v .command) .window in
-      avoids-places a (placeOf w) (λ k. getD (v .words) k 0) (deedFor ram s v .act .stored)
+      avoids-places a (placeOf w) (λ k. getD (v .words) k 0) (deedFor ram s v .stored)
       (λ k l q. h (rw q (place-from w k)) (rw q (place-below w k target-some)))
 
   lookup-avoids :
       (a : ℕ) →
       (a ≡ lookupPlace (s .area) (targetOf ram s (v .command) .number) → ⊥) →
       Avoids a (pointerWrites s (deedFor ram s v))
-  unfolding pointerWrites deedOf
+  unfolding pointerWrites deedOf deedWith
   lookup-avoids a h =
       let d = deedFor ram s v in
-      ⊎-elim (λ e. rw e (h, tt)) (λ e. rw e tt) (yes-or-no (d .motion .moves))
+      ⊎-elim (λ e. rw e (h, tt)) (λ e. rw e tt) (yes-or-no (d .moves))
 
   -- a deed writes only words of its cell's window, if it stores, and the cell's lookup word
   pub deed-avoids :
@@ -109,10 +130,10 @@ module _ (ram : List ℕ) (s : Settings) (v : Record) where
       (a ≡ lookupPlace (s .area) (targetOf ram s (v .command) .number) → ⊥) →
       (transmits (v .command) ≡ true) ⊎ Outside (targetOf ram s (v .command) .window) a →
       Avoids a (deedWrites s (deedFor ram s v) v)
-  unfolding deedWrites deedOf
+  unfolding deedWrites deedOf deedWith
   deed-avoids a h w =
       let d = deedFor ram s v in
-      avoids-append a (dataWrites (d .target .window) (v .words) (d .act .stored)) (pointerWrites s d) (data-avoids a w)
+      avoids-append a (dataWrites (d .window) (v .words) (d .stored)) (pointerWrites s d) (data-avoids a w)
       (lookup-avoids a h)
 
   module _ (f : Sure ram s (v .command)) where
@@ -121,8 +142,8 @@ module _ (ram : List ℕ) (s : Settings) (v : Record) where
         (a : ℕ) →
         Outside (stackWindow ram s) a →
         (a ≡ stackPointerPlace (s .area) → ⊥) →
-        Avoids a (stackWrites s (planOf ram s v) v)
-    unfolding stackWrites entryWrites planOf entryOf
+        Avoids a (stackWrites s (madePlan ram s v) v)
+    unfolding stackWrites entryWrites planWith entryOf
     entry-avoids a h p =
         avoids-append a (entryWrites (entryOf ram s) (descriptorOf (deedFor ram s v) v)) (stackPointerWrites s (entryOf ram s))
         (avoids-places a (λ k. stackPointer ram s + k) (λ k. getD (descriptorOf (deedFor ram s v) v) k 0) 4
@@ -138,7 +159,7 @@ module _ (ram : List ℕ) (s : Settings) (v : Record) where
         (a ≡ stackPointerPlace (s .area) → ⊥) →
         getD (afterMessage ram s v) a 0 ≡ getD (afterDeed ram s v) a 0
     beyond-stack a h p =
-        rw after-parts (untouched a (stackWrites s (planOf ram s v) v) (afterDeed ram s v) (entry-avoids a h p))
+        rw after-parts (untouched a (stackWrites s (madePlan ram s v) v) (afterDeed ram s v) (entry-avoids a h p))
 
     -- so every word that is none of these stays
     pub elsewhere :
@@ -180,21 +201,25 @@ module _ (ram : List ℕ) (s : Settings) (v : Record) where
 
     -- "The stack pointer moves on by 4, wrapping."
     pub stack-moves : stackPointer (afterMessage ram s v) s ≡ placeOf (stackWindow ram s) 4
-    unfolding stackPointer stackWrites applyWrites planOf entryOf
+    unfolding stackPointer stackWrites applyWrites planWith entryOf
     stack-moves =
         let p = stack-pointer-between (s .area) in
         let e = entryOf ram s in
         let m = applyWrites (entryWrites e (descriptorOf (deedFor ram s v) v)) (afterDeed ram s v) in
         let l : stackPointerPlace (s .area) < length m =
         rw (length-apply, deed-length) (omega (arith, f .long)) in
-        rw (after-parts, apply-append) (getD-set-same m (stackPointerPlace (s .area)) (e .after) 0 l)
+        let w = stackWindow ram s in
+        let b = place-below w 4 (stack-nonempty ram s (f .agreed) (f .stack)) in
+        rw (after-parts, apply-append)
+        (getD-set-same m (stackPointerPlace (s .area)) (e .after) 0 l
+        ∙ pointer-exact (placeOf w 4) (omega (arith, f .stack .inside, f .most)))
 
     -- "Four stack words at the stack pointer"
     pub entry-stands :
         (k : ℕ) →
         k < 4 →
         getD (afterMessage ram s v) (stackPointer ram s + k) 0 ≡ getD (descriptorOf (deedFor ram s v) v) k 0
-    unfolding stackWrites entryWrites applyWrites planOf entryOf
+    unfolding stackWrites entryWrites applyWrites planWith entryOf
     entry-stands k h =
         let d = descriptorOf (deedFor ram s v) v in
         let from = stack-word-from ram s (f .agreed) (f .stack) k h in
@@ -205,41 +230,41 @@ module _ (ram : List ℕ) (s : Settings) (v : Record) where
         let m = applyWrites (writesTo place word 4) (afterDeed ram s v) in
         let l : place k < length (afterDeed ram s v) = rw deed-length (o .inside) in
         rw (after-parts, apply-append)
-        (getD-set-other m (stackPointerPlace (s .area)) (place k) (placeOf (stackWindow ram s) 4) 0
+        (getD-set-other m (stackPointerPlace (s .area)) (place k) (entryOf ram s .after) 0
         (λ q. ordinary-not-stack-pointer (length ram) (place k) o (s .area) (sym q))
         ∙ written place word 4 k (afterDeed ram s v) h l (λ j a b q. omega arith))
 
     -- the cell's lookup word is where rule 5 leaves the pointer
     pub lookup-after :
         getD (afterMessage ram s v) (lookupPlace (s .area) (targetOf ram s (v .command) .number)) 0
-        ≡ deedFor ram s v .motion .after
-    unfolding deedWrites pointerWrites applyWrites deedOf
+        ≡ deedFor ram s v .after
+    unfolding deedWrites pointerWrites applyWrites deedOf deedWith
     lookup-after =
         let d = deedFor ram s v in
         let number = targetOf ram s (v .command) .number in
         let a = lookupPlace (s .area) number in
         let b = lookup-between (s .area) number cell-low in
-        let words = dataWrites (d .target .window) (v .words) (d .act .stored) in
+        let words = dataWrites (d .window) (v .words) (d .stored) in
         let m = applyWrites words ram in
         let l : a < length m = rw length-apply (omega (arith, f .long)) in
         let e =
         beyond-stack a (tables-off ram s (f .stack) a (omega arith) (omega arith)) (lookup-not-stack-pointer (s .area) number cell-low) in
         let g = apply-append words (pointerWrites s d) ram in
         ⊎-elim
-        (λ (moved : d .motion .moves ≡ true). e ∙ rw (g, moved) (getD-set-same m a (d .motion .after) 0 l))
-        (λ (kept : d .motion .moves ≡ false).
+        (λ (moved : d .moves ≡ true). e ∙ rw (g, moved) (getD-set-same m a (d .after) 0 l))
+        (λ (kept : d .moves ≡ false).
         e
         ∙ rw (g, kept)
         (untouched a words ram (data-avoids a (inr (tables-outside a (omega arith) (omega arith))))
         ∙ sym (stays kept ∙ pointer-read)))
-        (yes-or-no (d .motion .moves))
+        (yes-or-no (d .moves))
 
     -- "from the lookup pointer on, at rising addresses, wrapping": each word stored stands at its place of the window
     pub stored-stands :
         (k : ℕ) →
-        k < deedFor ram s v .act .stored →
+        k < deedFor ram s v .stored →
         getD (afterMessage ram s v) (placeOf (targetOf ram s (v .command) .window) k) 0 ≡ getD (v .words) k 0
-    unfolding deedWrites deedOf planOf targetOf
+    unfolding deedWrites deedOf deedWith planWith targetOf
     stored-stands k h =
         let d = deedFor ram s v in
         let c = cellFor ram s (v .command) in
@@ -247,14 +272,14 @@ module _ (ram : List ℕ) (s : Settings) (v : Record) where
         let a = placeOf w k in
         let o = sound-place (length ram) (stackWindow ram s) c (f .cell) target-sized k in
         let room = window-room (c .scheme) (c .pointer) target-sized in
-        let few = plan-stored ram s v in
-        let words = dataWrites w (v .words) (d .act .stored) in
+        let few = deed-stored s (targetOf ram s (v .command)) v in
+        let words = dataWrites w (v .words) (d .stored) in
         beyond-stack a (o .stack) (λ q. ordinary-not-stack-pointer (length ram) a (o .ordinary) (s .area) (sym q))
         ∙ rw (apply-append words (pointerWrites s d) ram)
         (untouched a (pointerWrites s d) (applyWrites words ram)
         (lookup-avoids a
         (λ q. ordinary-not-lookup (length ram) a (o .ordinary) (s .area) (targetOf ram s (v .command) .number) cell-low (sym q)))
-        ∙ written (placeOf w) (λ i. getD (v .words) i 0) (d .act .stored) k ram h (o .ordinary .inside)
+        ∙ written (placeOf w) (λ i. getD (v .words) i 0) (d .stored) k ram h (o .ordinary .inside)
         (λ j l b. places-differ w k j l (omega arith)))
 
     -- no word of the window lies in the stack's block
@@ -274,13 +299,13 @@ module _ (ram : List ℕ) (s : Settings) (v : Record) where
         a < stackWindow ram s .start + stackWindow ram s .size →
         ((k : ℕ) → k < 4 → a ≡ stackPointer ram s + k → ⊥) →
         getD (afterMessage ram s v) a 0 ≡ getD ram a 0
-    unfolding stackWrites entryWrites planOf entryOf
+    unfolding stackWrites entryWrites planWith entryOf
     block-stays a l h n =
         let o = stack-address ram s (f .stack) a l h in
         let e = entryOf ram s in
         let d = descriptorOf (deedFor ram s v) v in
         rw after-parts
-        (untouched a (stackWrites s (planOf ram s v) v) (afterDeed ram s v)
+        (untouched a (stackWrites s (madePlan ram s v) v) (afterDeed ram s v)
         (avoids-append a (entryWrites e d) (stackPointerWrites s e)
         (avoids-places a (λ k. stackPointer ram s + k) (λ k. getD d k 0) 4 n)
         (λ q. ordinary-not-stack-pointer (length ram) a o (s .area) (sym q), tt))

@@ -5,20 +5,22 @@ use mathlib.Core.List.{List, [], _∷_, _++_}
 use lib.ListN.{replicate}
 use Rattle.records.specs.declared.value.Record.{Record}
 use Rattle.words.specs.declared.settings.Settings.{Settings}
-use Rattle.words.specs.declared.settings.Remembered.{Remembered}
-use Rattle.words.specs.declared.settings.Area.the-variants.{A}
+use Rattle.words.specs.declared.remembered.Remembered.{Remembered}
 use Rattle.words.specs.Command.{subaddressOf, countField}
-use Rattle.words.specs.Settings.{nothingRemembered, isOwn}
+use Rattle.words.specs.Settings.{isOwn, plainSettings}
+use Rattle.words.specs.Remembered.{nothingRemembered}
 use Rattle.records.specs.Value.{zeroWords}
-use Rattle.records.specs.Fill.{fill}
+use Rattle.words.specs.Fill.{fill}
 use Rattle.memory.specs.Map.{illegalPlace, busyPlace}
+use Rattle.memory.specs.State.{State, stateOf}
+use Rattle.decide.specs.declared.plan.Plan.{Plan}
 use Rattle.message.specs.declared.answer.Answer.{Answer}
-use Rattle.message.specs.declared.answer.Outcome.{Outcome}
-use Rattle.arrival.specs.Fault.{expectedWords}
-use Rattle.decide.specs.Plan.{planOf}
-use Rattle.carry.specs.Writes.{Write, applyWrites, writesTo, writesOf}
+use Rattle.records.specs.Fault.{expectedWords}
+use Rattle.carry.specs.Writes.{writesOf}
+use Rattle.memory.specs.Writes.{Write, applyWrites, writesTo}
 use Rattle.carry.specs.Reply.{replyWords}
-use Rattle.message.specs.Message.{outcomeOfValue}
+use Rattle.message.specs.Heard.{heardValue}
+use Rattle.message.specs.Message.{planFor, answerOf, step}
 
 -- what a case starts from: blank RAM with some words written, settings, the record
 pub record Case : Type 0 where
@@ -45,16 +47,19 @@ pub record Row : Type 0 where
 abbrev pub imageOf : Case → List ℕ
 imageOf c = applyWrites (c .image) (replicate 4096 0)
 
-abbrev pub outcomeIn : Case → Outcome
-outcomeIn c = outcomeOfValue (imageOf c) (replicate 33 0) (c .settings) nothingRemembered (c .value)
+abbrev pub startOf : Case → State
+startOf c = stateOf (imageOf c) (replicate 33 0) nothingRemembered
+
+abbrev pub planIn : Case → Plan
+planIn c = planFor (c .settings) (c .value) (startOf c)
 
 unfoldable pub runCase : Case → Row
 runCase c =
     record {
-      answer = outcomeIn c .answer;
-      remembered = outcomeIn c .remembered;
-      sends = replyWords (imageOf c) (planOf (imageOf c) (c .settings) (c .value) .deed);
-      writes = writesOf (c .settings) (planOf (imageOf c) (c .settings) (c .value)) (c .value);
+      answer = answerOf (c .settings) (heardValue (c .value)) (startOf c);
+      remembered = step (c .settings) (heardValue (c .value)) (startOf c) .remembered;
+      sends = replyWords (imageOf c) (planIn c .deed);
+      writes = writesOf (c .settings) (planIn c) (c .value);
       expects = expectedWords (c .value .command);
       illegal =
           record {
@@ -68,27 +73,10 @@ runCase c =
           };
     }
 
--- ---- the cases
+-- ---- the cases: "RT 5, SA 3"
 
 abbrev pub put : ℕ → ℕ → Write
 put at word = record { at = at; word = word }
-
--- "RT 5, SA 3"; overwrite-invalid as told, the rest off
-abbrev pub terminal : Bool → Settings
-terminal overwrite =
-    record {
-      address = 5;
-      area = A;
-      «stack_size» = 256;
-      «overwrite_invalid» = overwrite;
-      «separate_broadcast» = false;
-      «illegal_receive_disable» = false;
-      «busy_receive_disable» = false;
-      «busy_always» = false;
-      «service_request» = false;
-      «subsystem_flag» = false;
-      «terminal_flag» = false;
-    }
 
 -- the pointer, and the control word: circular 128 with the circular interrupt, or double
 abbrev circular : ℕ → List Write
@@ -103,7 +91,7 @@ heard command flags count =
     record { command = command; tag = 0x789; flags = flags; count = count; words = fill (λ k. k + 1) zeroWords count }
 
 abbrev case : List Write → Bool → Record → Case
-case image overwrite v = record { image = image; settings = terminal overwrite; value = v }
+case image overwrite v = record { image = image; settings = plainSettings overwrite; value = v }
 
 unfoldable pub cases : List Case
 cases =

@@ -1,31 +1,46 @@
--- One message: the answer and the remembered state, every word of RAM and every word of the reply afterwards.
+-- One message: its answer, and the state that it leaves: every word of RAM and of the reply buffer, and what is remembered.
 use Prim.Native.Nat.{ℕ}
-use mathlib.Core.List.{List}
-use lib.ListN.{length}
+use mathlib.Core.Bool.{cond}
+use lib.Dec.{eqb}
 use Rattle.records.specs.declared.value.Record.{Record}
 use Rattle.words.specs.declared.settings.Settings.{Settings}
-use Rattle.words.specs.declared.settings.Remembered.{Remembered}
-use Rattle.layout.specs.Layout.{valueIn}
-use Rattle.message.specs.declared.answer.Outcome.{Outcome}
-use Rattle.message.specs.Answer.{refusalOfValue, refusalOfBytes, outcomeFor, ramFor, replyFor}
+use Rattle.words.specs.declared.remembered.Remembered.{Remembered}
+use Rattle.memory.specs.State.{State}
+use Rattle.memory.specs.Writes.{applyWrites}
+use Rattle.decide.specs.declared.plan.Plan.{Plan}
+use Rattle.decide.specs.Plan.{planOf}
+use Rattle.carry.specs.Writes.{writesOf}
+use Rattle.carry.specs.Reply.{replyWrites}
+use Rattle.message.specs.declared.answer.Answer.{Answer}
+use Rattle.message.specs.Heard.{Heard}
+use Rattle.message.specs.Tests.{refusalFor}
+use Rattle.message.specs.Answer.{answerFor}
 
--- from a record value
-unfoldable pub outcomeOfValue : List ℕ → List ℕ → Settings → Remembered → Record → Outcome
-outcomeOfValue ram reply s before v = outcomeFor (refusalOfValue ram (length reply) s v) ram s before v
+-- the plan of what was heard, in a state
+abbrev pub planFor : Settings → Record → State → Plan
+planFor s v x = planOf s (x .ram) (x .remembered) v
 
-unfoldable pub ramAfterValue : List ℕ → List ℕ → Settings → Record → List ℕ
-ramAfterValue ram reply s v = ramFor (refusalOfValue ram (length reply) s v) ram s v
+-- "It and the command are remembered after every accepted message"
+unfoldable pub rememberedWith : Plan → Record → Remembered
+rememberedWith p v = record { command = v .command; status = p .deed .status }
 
-unfoldable pub replyAfterValue : List ℕ → List ℕ → Settings → Record → List ℕ
-replyAfterValue ram reply s v = replyFor (refusalOfValue ram (length reply) s v) ram reply s v
+-- a plan carried out
+unfoldable pub carriedOut : Settings → Plan → Record → State → State
+carriedOut s p v x =
+    record {
+      ram = applyWrites (writesOf s p v) (x .ram);
+      reply = applyWrites (replyWrites (x .ram) (p .deed)) (x .reply);
+      remembered = rememberedWith p v;
+    }
 
--- from record bytes
-unfoldable pub outcomeOfBytes : List ℕ → List ℕ → Settings → Remembered → List ℕ → Outcome
-outcomeOfBytes ram reply s before bytes =
-    outcomeFor (refusalOfBytes ram (length reply) s bytes) ram s before (valueIn bytes)
+-- by the number that the tests gave; of a refusal, "RAM, reply and remembered state keep their contents"
+unfoldable pub stateFor : ℕ → Settings → Plan → Record → State → State
+stateFor number s p v x = cond (eqb number 0) (carriedOut s p v x) x
 
-unfoldable pub ramAfterBytes : List ℕ → List ℕ → Settings → List ℕ → List ℕ
-ramAfterBytes ram reply s bytes = ramFor (refusalOfBytes ram (length reply) s bytes) ram s (valueIn bytes)
+-- the answer to what was heard
+unfoldable pub answerOf : Settings → Heard → State → Answer
+answerOf s h x = answerFor (refusalFor s h x) (planFor s (h .value) x)
 
-unfoldable pub replyAfterBytes : List ℕ → List ℕ → Settings → List ℕ → List ℕ
-replyAfterBytes ram reply s bytes = replyFor (refusalOfBytes ram (length reply) s bytes) ram reply s (valueIn bytes)
+-- and the state after it
+unfoldable pub step : Settings → Heard → State → State
+step s h x = stateFor (refusalFor s h x) s (planFor s (h .value) x) (h .value) x

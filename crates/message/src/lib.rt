@@ -2,3 +2,4 @@
 // Document 01, "What one message does" and "Numbers that refuse".
 pub mod answer;
 pub mod serve;
+pub mod tests;

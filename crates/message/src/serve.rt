@@ -1,18 +1,18 @@
 // One message: the entry points.
 ghost use mathlib.Core.Path.{_≡_};
 ghost use lib.ListN.{length};
-ghost use Rattle.decide.specs.Ready.{Ready};
+ghost use Rattle.words.specs.Refusal.{firstOf};
+ghost use Rattle.memory.specs.State.{stateOf};
 ghost use Rattle.decide.specs.Plan.{planOf};
-ghost use Rattle.carry.specs.Writes.{applyWrites, writesOf};
-ghost use Rattle.carry.specs.Reply.{replyWrites};
-ghost use Rattle.message.specs.Answer.{acceptedOutcome, outcomeFor, ramFor, replyFor};
-ghost use Rattle.message.specs.InTurn.{earlyRefusal, lateRefusal};
-ghost use Rattle.message.specs.Message.{outcomeOfValue, ramAfterValue, replyAfterValue, outcomeOfBytes, ramAfterBytes, replyAfterBytes};
+ghost use Rattle.message.specs.Heard.{heardValue, heardBytes};
+ghost use Rattle.message.specs.Tests.{earlyTests, commandTests};
+ghost use Rattle.message.specs.Answer.{refusedWith, acceptedWith, answerFor};
+ghost use Rattle.message.specs.Message.{carriedOut, stateFor, answerOf, step};
 use crate::answer::Outcome;
-use crate::answer::accepted_outcome;
-use crate::answer::early_refusal;
-use crate::answer::late_refusal;
-use crate::answer::refused_outcome;
+use crate::answer::accepted_with;
+use crate::answer::refused_with;
+use crate::tests::early_refusal;
+use crate::tests::late_refusal;
 use carry::carry::carry_out;
 use carry::reply::send;
 use decide::plan::plan_of;
@@ -21,39 +21,56 @@ use memory::map::ram_refused;
 use records::value::Record;
 use records::value::keeps_layout;
 use words::choose::no;
-use words::settings::Remembered;
+use words::number::RAM_LENGTH;
+use words::number::RECORD_LAYOUT;
+use words::remembered::Remembered;
 use words::settings::Settings;
 
-// An accepted message: decided, then carried out.
-fn accept(ram: &mut [u16], reply: &mut [u16], s: Settings, v: Record) -> Outcome
-    requires { ⌜ Ready (now ram) s (v .command) ⌝ }
-    ensures outcome { λ r. ⌜ r ≡ acceptedOutcome (planOf (now (ram .entry)) s v) v ⌝ }
-    ensures ram { λ r. ⌜ now (ram .exit) ≡ applyWrites (writesOf s (planOf (now (ram .entry)) s v) v) (now (ram .entry)) ⌝ }
-    ensures reply { λ r. ⌜ now (reply .exit) ≡ applyWrites (replyWrites (now (ram .entry)) (planOf (now (ram .entry)) s v .deed)) (now (reply .entry)) ⌝ }
+// A refusal: nothing is remembered that was not before.
+fn refuse(number: u16, before: Remembered) -> Outcome
+    ensures { λ r. ⌜ r ≡ record { answer = refusedWith number; remembered = before } ⌝ }
 {
-    let plan = plan_of(ram, s, v);
+    let answer = refused_with(number);
+    Outcome {
+        answer,
+        remembered: before,
+    }
+}
+
+// An accepted message: decided, then carried out.
+fn accept(ram: &mut [u16], reply: &mut [u16], s: Settings, before: Remembered, v: Record) -> Outcome
+    ensures answer { λ r. ⌜ r .answer ≡ acceptedWith (planOf s (now (ram .entry)) before v) ⌝ }
+    ensures state { λ r. ⌜ stateOf (now (ram .exit)) (now (reply .exit)) (r .remembered) ≡ carriedOut s (planOf s (now (ram .entry)) before v) v (stateOf (now (ram .entry)) (now (reply .entry)) before) ⌝ }
+{
+    let plan = plan_of(ram, s, before, v);
     let deed = plan.deed;
     send(ram, reply, deed);
     carry_out(ram, s, plan, v);
-    accepted_outcome(plan, v)
+    let answer = accepted_with(plan);
+    Outcome {
+        answer,
+        remembered: Remembered {
+            command: v.command,
+            status: deed.status,
+        },
+    }
 }
 
 // A record in order, after the early tests: those about the command, and then accepted or refused.
 fn serve(ram: &mut [u16], reply: &mut [u16], s: Settings, before: Remembered, v: Record) -> Outcome
-    requires { ⌜ earlyRefusal (length (now ram)) (length (now reply)) s ≡ 0 ⌝ }
-    ensures outcome { λ r. ⌜ r ≡ outcomeFor (lateRefusal (now (ram .entry)) s (v .command)) (now (ram .entry)) s before v ⌝ }
-    ensures ram { λ r. ⌜ now (ram .exit) ≡ ramFor (lateRefusal (now (ram .entry)) s (v .command)) (now (ram .entry)) s v ⌝ }
-    ensures reply { λ r. ⌜ now (reply .exit) ≡ replyFor (lateRefusal (now (ram .entry)) s (v .command)) (now (ram .entry)) (now (reply .entry)) s v ⌝ }
+    requires { ⌜ firstOf (earlyTests (length (now ram)) (length (now reply)) s) ≡ 0 ⌝ }
+    ensures answer { λ r. ⌜ r .answer ≡ answerFor (firstOf (commandTests (now (ram .entry)) s (v .command))) (planOf s (now (ram .entry)) before v) ⌝ }
+    ensures state { λ r. ⌜ stateOf (now (ram .exit)) (now (reply .exit)) (r .remembered) ≡ stateFor (firstOf (commandTests (now (ram .entry)) s (v .command))) s (planOf s (now (ram .entry)) before v) v (stateOf (now (ram .entry)) (now (reply .entry)) before) ⌝ }
 {
     // Never so here. It tells the compiler how long RAM is, which then leaves out the bounds tests of fixed places.
     if ram_refused(ram.len()) {
-        return refused_outcome(1, before);
+        return refuse(RAM_LENGTH, before);
     }
     let number = late_refusal(ram, s, v.command);
     if number != 0 {
-        return refused_outcome(number, before);
+        return refuse(number, before);
     }
-    accept(ram, reply, s, v)
+    accept(ram, reply, s, before, v)
 }
 
 // One message from a record value.
@@ -64,16 +81,15 @@ pub fn message_from_value(
     before: Remembered,
     v: Record,
 ) -> Outcome
-    ensures outcome { λ r. ⌜ r ≡ outcomeOfValue (now (ram .entry)) (now (reply .entry)) s before v ⌝ }
-    ensures ram { λ r. ⌜ now (ram .exit) ≡ ramAfterValue (now (ram .entry)) (now (reply .entry)) s v ⌝ }
-    ensures reply { λ r. ⌜ now (reply .exit) ≡ replyAfterValue (now (ram .entry)) (now (reply .entry)) s v ⌝ }
+    ensures answer { λ r. ⌜ r .answer ≡ answerOf s (heardValue v) (stateOf (now (ram .entry)) (now (reply .entry)) before) ⌝ }
+    ensures state { λ r. ⌜ stateOf (now (ram .exit)) (now (reply .exit)) (r .remembered) ≡ step s (heardValue v) (stateOf (now (ram .entry)) (now (reply .entry)) before) ⌝ }
 {
     let early = early_refusal(ram.len(), reply.len(), s);
     if early != 0 {
-        return refused_outcome(early, before);
+        return refuse(early, before);
     }
     if no(keeps_layout(v)) {
-        return refused_outcome(5, before);
+        return refuse(RECORD_LAYOUT, before);
     }
     serve(ram, reply, s, before, v)
 }
@@ -86,17 +102,16 @@ pub fn message_from_bytes(
     before: Remembered,
     bytes: &[u8],
 ) -> Outcome
-    ensures outcome { λ r. ⌜ r ≡ outcomeOfBytes (now (ram .entry)) (now (reply .entry)) s before (now (bytes .entry)) ⌝ }
-    ensures ram { λ r. ⌜ now (ram .exit) ≡ ramAfterBytes (now (ram .entry)) (now (reply .entry)) s (now (bytes .entry)) ⌝ }
-    ensures reply { λ r. ⌜ now (reply .exit) ≡ replyAfterBytes (now (ram .entry)) (now (reply .entry)) s (now (bytes .entry)) ⌝ }
+    ensures answer { λ r. ⌜ r .answer ≡ answerOf s (heardBytes (now (bytes .entry))) (stateOf (now (ram .entry)) (now (reply .entry)) before) ⌝ }
+    ensures state { λ r. ⌜ stateOf (now (ram .exit)) (now (reply .exit)) (r .remembered) ≡ step s (heardBytes (now (bytes .entry))) (stateOf (now (ram .entry)) (now (reply .entry)) before) ⌝ }
 {
     let early = early_refusal(ram.len(), reply.len(), s);
     if early != 0 {
-        return refused_outcome(early, before);
+        return refuse(early, before);
     }
     let reading = reader::read(bytes);
     if reading.number != 0 {
-        return refused_outcome(reading.number, before);
+        return refuse(reading.number, before);
     }
     let v = reading.value;
     serve(ram, reply, s, before, v)

@@ -3,6 +3,7 @@
 -- drift from its function.
 use Rattle.words.proofs.Settled.{determined, Settled}
 use Rattle.text.proofs.line
+use Rattle.text.proofs.text
 
 pub put-line-settled : Settled 1 line.put_line.Kinds.ps line.put_line.Kinds.r line.put_line.Reads.Post
 put-line-settled κs a x y v w p q =
@@ -18,4 +19,20 @@ put-end-settled κs a x y v w p q =
 
 pub put-image-settled : Settled 1 line.put_image.Kinds.ps line.put_image.Kinds.r line.put_image.Reads.Post
 put-image-settled κs a x y v w p q =
+    (determined (p .place) (q .place), λ i. (determined (p .bytes) (q .bytes) i, v .1))
+
+pub put-bytes-settled : Settled 2 text.put_bytes.Kinds.ps text.put_bytes.Kinds.r text.put_bytes.Reads.Post
+put-bytes-settled κs a x y v w p q =
+    (determined (p .place) (q .place), λ i. (determined (p .bytes) (q .bytes) i, v .1))
+
+pub put-newline-settled : Settled 1 line.put_newline.Kinds.ps line.put_newline.Kinds.r line.put_newline.Reads.Post
+put-newline-settled κs a x y v w p q =
+    (determined (p .place) (q .place), λ i. (determined (p .bytes) (q .bytes) i, v .1))
+
+pub put-number-settled : Settled 1 line.put_number.Kinds.ps line.put_number.Kinds.r line.put_number.Reads.Post
+put-number-settled κs a x y v w p q =
+    (determined (p .0 .place) (q .0 .place), λ i. (determined (p .0 .bytes) (q .0 .bytes) i, v .1))
+
+pub put-named-settled : Settled 2 line.put_named.Kinds.ps line.put_named.Kinds.r line.put_named.Reads.Post
+put-named-settled κs a x y v w p q =
     (determined (p .place) (q .place), λ i. (determined (p .bytes) (q .bytes) i, v .1))

@@ -9,7 +9,7 @@ use crate::text::put_decimal;
 use crate::text::put_hex;
 use message::answer::Answer;
 
-fn put_newline(out: &mut [u8], at: usize) -> usize
+pub fn put_newline(out: &mut [u8], at: usize) -> usize
     requires { ⌜ at ≤ 2 ^ 63 + 512 ⌝ }
     ensures { λ r. ⌜ Put (now (out .entry)) at newline (now (out .exit)) r ⌝ }
 {
@@ -28,7 +28,7 @@ fn put_word(out: &mut [u8], at: usize, w: u16) -> usize
 }
 
 // A column of a number.
-fn put_number(out: &mut [u8], at: usize, n: u64) -> usize
+pub fn put_number(out: &mut [u8], at: usize, n: u64) -> usize
     requires { ⌜ at ≤ 2 ^ 63 + 512 ⌝ }
     ensures text { λ r. ⌜ Put (now (out .entry)) at (column (decimalText n)) (now (out .exit)) r ⌝ }
     ensures near { λ r. ⌜ r ≤ at + 21 ⌝ }
@@ -102,7 +102,7 @@ pub fn put_line(out: &mut [u8], at: usize, number: u64, a: Answer) -> usize
     }
 }
 
-fn put_named(out: &mut [u8], at: usize, name: &[u8], n: u64) -> usize
+pub fn put_named(out: &mut [u8], at: usize, name: &[u8], n: u64) -> usize
     requires { ⌜ (at ≤ 2 ^ 63) × (length (now name) ≤ 21) ⌝ }
     ensures { λ r. ⌜ Put (now (out .entry)) at (namedLine (now (name .entry)) n) (now (out .exit)) r ⌝ }
 {
@@ -129,9 +129,9 @@ pub fn put_end(out: &mut [u8], at: usize, number: u64) -> usize
     put_named(out, at, b"end", number)
 }
 
-pub fn put_image(out: &mut [u8], at: usize, length: u64) -> usize
+pub fn put_image(out: &mut [u8], at: usize, bytes: u64) -> usize
     requires { ⌜ at ≤ 2 ^ 63 ⌝ }
-    ensures { λ r. ⌜ Put (now (out .entry)) at (imageLine length) (now (out .exit)) r ⌝ }
+    ensures { λ r. ⌜ Put (now (out .entry)) at (imageLine bytes) (now (out .exit)) r ⌝ }
 {
-    put_named(out, at, b"image", length)
+    put_named(out, at, b"image", bytes)
 }

@@ -14,7 +14,7 @@ pub(crate) fn put_byte(out: &mut [u8], at: usize, b: u8)
 }
 
 // The bytes of `s` at `at`, and the place after them.
-pub(crate) fn put_bytes(out: &mut [u8], at: usize, s: &[u8]) -> usize
+pub fn put_bytes(out: &mut [u8], at: usize, s: &[u8]) -> usize
     requires { ⌜ (at ≤ 2 ^ 63 + 1024) × (length (now s) ≤ 21) ⌝ }
     ensures { λ r. ⌜ Put (now (out .entry)) at (now (s .entry)) (now (out .exit)) r ⌝ }
 {

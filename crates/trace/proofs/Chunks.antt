@@ -10,14 +10,14 @@ use Rattle.words.specs.declared.settings.Settings.{Settings}
 use Rattle.trace.specs.Walk.{Walk, recordAt, wholeRecords, walkRecord, walkTo, walkAll, anew}
 
 -- a record that ends in the first part
-record-first : (xs ys : List ℕ) (n : ℕ) → 80 * suc n ≤ length xs → recordAt (xs ++ ys) n ≡ recordAt xs n
+pub record-first : (xs ys : List ℕ) (n : ℕ) → 80 * suc n ≤ length xs → recordAt (xs ++ ys) n ≡ recordAt xs n
 record-first xs ys n h =
     let inside : 80 * n ≤ length xs = omega arith in
     let left : 80 ≤ length (drop (80 * n) xs) = rw length-drop (omega arith) in
     rw (drop-append-le (80 * n) xs ys inside, take-append-le 80 (drop (80 * n) xs) ys left)
 
 -- a record that begins in the second part
-record-second : (xs ys : List ℕ) (m n : ℕ) → length xs ≡ 80 * m → recordAt (xs ++ ys) (m + n) ≡ recordAt ys n
+pub record-second : (xs ys : List ℕ) (m n : ℕ) → length xs ≡ 80 * m → recordAt (xs ++ ys) (m + n) ≡ recordAt ys n
 record-second xs ys m n h =
     let e : 80 * (m + n) ≡ length xs + 80 * n = omega arith in rw (e, drop-append-add xs ys (80 * n))
 
@@ -35,17 +35,22 @@ unfolding walkTo
 walk-both s xs ys w m zero h = rw add-zero (walk-first s xs ys w m (omega arith))
 walk-both s xs ys w m (suc n) h = rw (add-suc, record-second xs ys m n h, walk-both s xs ys w m n h)
 
--- walking xs ++ ys, where xs is a whole number of records, is walking xs and then ys
+-- the whole records of xs ++ ys, where xs is a whole number of records, are those of xs and those of ys
+pub whole-append :
+    (xs ys : List ℕ) → length xs % 80 ≡ 0 → wholeRecords (xs ++ ys) ≡ wholeRecords xs + wholeRecords ys
+whole-append xs ys h =
+    let e : length xs ≡ 80 * (length xs / 80) = omega arith in
+    rw length-append
+    (ap (λ (k : ℕ). (k + length ys) / 80) e ∙ mul-add-div (omega arith) (length xs / 80) (length ys))
+
+-- and walking xs ++ ys is walking xs and then ys
 pub walk-append :
     (s : Settings) (xs ys : List ℕ) (w : Walk) →
     length xs % 80 ≡ 0 →
     walkAll s (xs ++ ys) w ≡ walkAll s ys (walkAll s xs w)
 unfolding walkAll
 walk-append s xs ys w h =
-    let e : length xs ≡ 80 * (length xs / 80) = omega arith in
-    let c : (length xs + length ys) / 80 ≡ length xs / 80 + length ys / 80 =
-    ap (λ (k : ℕ). (k + length ys) / 80) e ∙ mul-add-div (omega arith) (length xs / 80) (length ys) in
-    rw (length-append, c) (walk-both s xs ys w (length xs / 80) (length ys / 80) e)
+    rw (whole-append xs ys h) (walk-both s xs ys w (length xs / 80) (length ys / 80) (omega arith))
 
 -- the text so far only stands in front
 walk-anew :

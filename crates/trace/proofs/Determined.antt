@@ -6,9 +6,6 @@ use Rattle.words.proofs.Settled.{determined, Settled}
 use Rattle.trace.proofs.output
 use Rattle.trace.proofs.walk
 
-pub program-settings-settled : Settled 0 output.program_settings.Kinds.ps output.program_settings.Kinds.r output.program_settings.Reads.Post
-program-settings-settled κs a x y v w p q = (determined p q, refl)
-
 pub load-image-settled : Settled 2 output.load_image.Kinds.ps output.load_image.Kinds.r output.load_image.Reads.Post
 load-image-settled κs a x y v w p q = (refl, λ i. (determined p q i, v .1))
 

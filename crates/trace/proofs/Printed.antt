@@ -7,12 +7,13 @@ use lib.ListN.{length, take, drop, replicate, length-append}
 use lib.Seq.{sets, sets-eq, take-at, drop-at}
 use borrow.Author.Tests.{lt-ltb, le-ltb}
 use Rattle.words.specs.declared.settings.Settings.{Settings}
-use Rattle.words.specs.declared.settings.Remembered.{Remembered}
-use Rattle.words.specs.Settings.{nothingRemembered}
+use Rattle.words.specs.declared.remembered.Remembered.{Remembered}
+use Rattle.words.specs.Remembered.{nothingRemembered}
 use Rattle.trace.specs.declared.walk.Walked.{Walked}
 use Rattle.text.specs.Line.{imageLine, namedLine}
 use Rattle.trace.specs.Walk.{Walk, walkAll, walkStart, walkedOf, anew}
-use Rattle.trace.specs.Output.{programSettings, imageRam, lastLines, textToEnd, traceText, programOutput, written, refilled, WholeRefills}
+use Rattle.words.specs.Settings.{programSettings}
+use Rattle.trace.specs.Output.{imageRam, lastLines, textToEnd, traceText, programOutput, written, refilled, WholeRefills}
 use Rattle.text.proofs.Numerals.{decimal-most}
 use Rattle.text.proofs.Lines.{tail-most, end-most}
 use Rattle.trace.proofs.Walks.{text-most}

@@ -8,11 +8,13 @@ use mathlib.Core.List.{List}
 use lib.ListN.{length, length-append}
 use lib.Seq.{sets}
 use Rattle.words.specs.declared.settings.Settings.{Settings}
-use Rattle.words.specs.declared.settings.Remembered.{Remembered}
-use Rattle.message.specs.Run.{stepBytes}
+use Rattle.words.specs.declared.remembered.Remembered.{Remembered}
+use Rattle.memory.specs.State.{State, stateOf}
+use Rattle.message.specs.Heard.{heardBytes}
+use Rattle.message.specs.Message.{answerOf, step}
 use Rattle.trace.specs.declared.walk.Walked.{Walked}
 use Rattle.text.specs.Line.{lineOf}
-use Rattle.trace.specs.Walk.{Walk, Leaves, recordAt, nextNumber, answerTo, walkRecord, walkTo, walkStart, walkedOf}
+use Rattle.trace.specs.Walk.{Walk, Leaves, recordAt, nextNumber, walkRecord, walkTo, walkStart, walkedOf}
 use Rattle.text.proofs.Runs.{sets-append}
 use Rattle.text.proofs.Lines.{line-most}
 
@@ -32,29 +34,31 @@ text-most s trace w (suc n) =
     (omega (
       arith,
       text-most s trace w n,
-      line-most (nextNumber (walkTo s trace w n .number)) (answerTo s (recordAt trace n) (walkTo s trace w n .state)),
+      line-most (nextNumber (walkTo s trace w n .number)) (answerOf s (heardBytes (recordAt trace n)) (walkTo s trace w n .state)),
     ))
 
 -- the walk so far, its text from the front of the lent buffer `room`
 pub record Stands (w : Walk) (room ram reply out : List ℕ) (walked : Walked) : Type 0 where
-  pub memory : ram ≡ w .state .ram
-  pub answer : reply ≡ w .state .reply
+  pub state : stateOf ram reply (walked .remembered) ≡ w .state
   pub text : out ≡ sets room 0 (w .text)
-  pub back : walked ≡ walkedOf w
+  pub number : walked .number ≡ w .number
+  pub used : walked .used ≡ length (w .text)
 
 record-stands :
     (s : Settings) (bytes : List ℕ) (w : Walk) (room ram reply out ram₁ reply₁ out₁ : List ℕ) (walked walked₁ : Walked) →
     Stands w room ram reply out walked →
     Leaves (walkRecord s bytes (walkStart ram reply (walked .remembered) (walked .number))) out (walked .used) ram₁ reply₁ out₁ walked₁ →
     Stands (walkRecord s bytes w) room ram₁ reply₁ out₁ walked₁
-unfolding walkRecord stepBytes
+unfolding walkRecord
 record-stands s bytes w room ram reply out ram₁ reply₁ out₁ walked walked₁ a b =
-    let line : List ℕ = lineOf (nextNumber (w .number)) (answerTo s bytes (w .state)) in
+    let line : List ℕ = lineOf (nextNumber (w .number)) (answerOf s (heardBytes bytes) (w .state)) in
+    let same : lineOf (nextNumber (walked .number)) (answerOf s (heardBytes bytes) (stateOf ram reply (walked .remembered))) ≡ line =
+    rw (a .state, a .number) in
     record {
-      memory = cc;
-      answer = cc;
-      text = rw (← sets-append room (w .text) line 0, zero-add) (cc);
-      back = rw length-append (cc);
+      state = rw (← a .state) (b .state);
+      text = rw (← sets-append room (w .text) line 0, zero-add, ← a .text, ← a .used, ← same) (b .line);
+      number = rw (← a .number) (b .number);
+      used = rw (length-append, ← a .used, ← same) (b .used);
     }
 
 pub stands-none :
@@ -62,7 +66,7 @@ pub stands-none :
     Stands (walkTo s trace (walkStart ram reply before number) 0) room ram reply room
     (record { remembered = before; number = number; used = 0 })
 unfolding walkTo
-stands-none s trace ram reply room before number = record { memory = refl; answer = refl; text = refl; back = refl }
+stands-none s trace ram reply room before number = record { state = refl; text = refl; number = refl; used = refl }
 
 pub stands-more :
     (s : Settings) (trace : List ℕ) (w : Walk) (n : ℕ) {room ram reply out ram₁ reply₁ out₁ : List ℕ} {walked walked₁ : Walked} →
@@ -76,7 +80,11 @@ pub stands-place :
     (s : Settings) (trace : List ℕ) (w : Walk) (n : ℕ) {room ram reply out : List ℕ} {walked : Walked} →
     Stands (walkTo s trace w n) room ram reply out walked →
     walked .used ≤ length (w .text) + 72 * n
-stands-place s trace w n a = rw (a .back) (text-most s trace w n)
+stands-place s trace w n a = rw (a .used) (text-most s trace w n)
+
+-- what the function hands back is the walk's
+pub stands-back : {w : Walk} {room ram reply out : List ℕ} {walked : Walked} → Stands w room ram reply out walked → walked ≡ walkedOf w
+stands-back a = λ i. record { remembered = a .state i .remembered; number = a .number i; used = a .used i }
 
 -- the number counts records, refused ones too
 pub walk-number :

@@ -1,34 +1,16 @@
 -- The trace program's whole output for a whole input.
 use Prim.Native.Nat.{ℕ, _*_, _%_}
-use mathlib.Core.Bool.{true, false, cond}
+use mathlib.Core.Bool.{cond}
 use mathlib.Core.Path.{_≡_}
 use mathlib.Core.List.{List, [], _∷_, _++_}
 use lib.ListN.{length, take, drop, replicate}
 use lib.Dec.{ltb}
-use Rattle.words.specs.declared.settings.Settings.{Settings}
-use Rattle.words.specs.declared.settings.Area.the-variants.{A}
-use Rattle.words.specs.Settings.{nothingRemembered}
-use Rattle.records.specs.Fill.{fill}
+use Rattle.words.specs.Settings.{programSettings}
+use Rattle.words.specs.Remembered.{nothingRemembered}
+use Rattle.words.specs.Fill.{fill}
 use Rattle.layout.specs.Layout.{wordAt}
 use Rattle.text.specs.Line.{tailLine, endLine, imageLine}
 use Rattle.trace.specs.Walk.{Walk, walkStart, walkAll, anew}
-
--- "with RT 5, area A, stack 256, overwrite-invalid on and the rest off"
-unfoldable pub programSettings : Settings
-programSettings =
-    record {
-      address = 5;
-      area = A;
-      «stack_size» = 256;
-      «overwrite_invalid» = true;
-      «separate_broadcast» = false;
-      «illegal_receive_disable» = false;
-      «busy_receive_disable» = false;
-      «busy_always» = false;
-      «service_request» = false;
-      «subsystem_flag» = false;
-      «terminal_flag» = false;
-    }
 
 -- "8,192 bytes of RAM image, each word high byte first": the first n words of it, put over ram
 unfoldable pub imageInto : List ℕ → List ℕ → ℕ → List ℕ
@@ -42,7 +24,6 @@ imageRam bytes = imageInto bytes (replicate 4096 0) 4096
 unfoldable pub lastLines : ℕ → ℕ → List ℕ
 lastLines tail number = tailLine tail ++ endLine number
 
--- the lines of all whole records, and the last lines
 -- from a walk on to the end of the trace: a line for each whole record, and the last lines
 unfoldable pub textToEnd : List ℕ → Walk → List ℕ
 textToEnd trace w =

@@ -1,15 +1,15 @@
 -- Walking a trace: message by message over its whole records. "Walking a trace hands on the next 80 bytes from the middle of
--- what was read."
+-- what was read".
 use Prim.Native.Nat.{ℕ, zero, suc, _+_, _*_, _/_, _%_, _^_}
 use mathlib.Core.Path.{_≡_}
 use mathlib.Core.List.{List, [], _++_}
 use lib.ListN.{length, take, drop}
 use lib.Seq.{sets}
 use Rattle.words.specs.declared.settings.Settings.{Settings}
-use Rattle.words.specs.declared.settings.Remembered.{Remembered}
-use Rattle.message.specs.declared.answer.Answer.{Answer}
-use Rattle.message.specs.Message.{outcomeOfBytes}
-use Rattle.message.specs.Run.{State, stepBytes}
+use Rattle.words.specs.declared.remembered.Remembered.{Remembered}
+use Rattle.memory.specs.State.{State, stateOf}
+use Rattle.message.specs.Heard.{heardBytes}
+use Rattle.message.specs.Message.{answerOf, step}
 use Rattle.trace.specs.declared.walk.Walked.{Walked}
 use Rattle.text.specs.Line.{lineOf}
 
@@ -30,16 +30,13 @@ pub record Walk : Type 0 where
 abbrev pub nextNumber : ℕ → ℕ
 nextNumber n = (n + 1) % 2 ^ 64
 
-abbrev pub answerTo : Settings → List ℕ → State → Answer
-answerTo s bytes x = outcomeOfBytes (x .ram) (x .reply) s (x .remembered) bytes .answer
-
 -- one record more
 unfoldable pub walkRecord : Settings → List ℕ → Walk → Walk
 walkRecord s bytes w =
     record {
-      state = stepBytes s bytes (w .state);
+      state = step s (heardBytes bytes) (w .state);
       number = nextNumber (w .number);
-      text = w .text ++ lineOf (nextNumber (w .number)) (answerTo s bytes (w .state));
+      text = w .text ++ lineOf (nextNumber (w .number)) (answerOf s (heardBytes bytes) (w .state));
     }
 
 -- the first n records
@@ -50,7 +47,7 @@ walkTo s trace w (suc n) = walkRecord s (recordAt trace n) (walkTo s trace w n)
 -- all whole records, from RAM, reply, remembered state and record number
 abbrev pub walkStart : List ℕ → List ℕ → Remembered → ℕ → Walk
 walkStart ram reply before number =
-    record { state = record { ram = ram; reply = reply; remembered = before }; number = number; text = [] }
+    record { state = stateOf ram reply before; number = number; text = [] }
 
 unfoldable pub walkAll : Settings → List ℕ → Walk → Walk
 walkAll s trace w = walkTo s trace w (wholeRecords trace)
@@ -65,7 +62,7 @@ walkedOf w = record { remembered = w .state .remembered; number = w .number; use
 
 -- one record's walk, with its line at a place of the lent buffer `room`: every lent word afterwards, and what is handed back
 pub record Leaves (w : Walk) (room : List ℕ) (at : ℕ) (ram reply out : List ℕ) (walked : Walked) : Type 0 where
-  pub memory : ram ≡ w .state .ram
-  pub answer : reply ≡ w .state .reply
+  pub state : stateOf ram reply (walked .remembered) ≡ w .state
   pub line : out ≡ sets room at (w .text)
-  pub back : walked ≡ record { remembered = w .state .remembered; number = w .number; used = at + length (w .text) }
+  pub number : walked .number ≡ w .number
+  pub used : walked .used ≡ at + length (w .text)

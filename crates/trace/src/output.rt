@@ -1,35 +1,15 @@
-// What the trace program needs beside the walk: its settings, its image, its last lines.
+// What the trace program needs beside the walk: its image and its last lines.
 ghost use mathlib.Core.Path.{_≡_};
 ghost use Prim.Native.Nat.{_+_, _*_, _<_, _^_};
 ghost use lib.ListN.{length, getD};
 ghost use Rattle.layout.specs.Layout.{wordAt};
 ghost use Rattle.text.specs.Text.{Put};
 ghost use Rattle.text.specs.Line.{imageLine};
-ghost use Rattle.trace.specs.Output.{programSettings, imageInto, lastLines};
+ghost use Rattle.trace.specs.Output.{imageInto, lastLines};
 use layout::reader::join;
 use text::line::put_end;
 use text::line::put_image;
 use text::line::put_tail;
-use words::settings::Area;
-use words::settings::Settings;
-
-pub fn program_settings() -> Settings
-    ensures { λ r. ⌜ r ≡ programSettings ⌝ }
-{
-    Settings {
-        address: 5,
-        area: Area::A,
-        stack_size: 256,
-        overwrite_invalid: true,
-        separate_broadcast: false,
-        illegal_receive_disable: false,
-        busy_receive_disable: false,
-        busy_always: false,
-        service_request: false,
-        subsystem_flag: false,
-        terminal_flag: false,
-    }
-}
 
 // A byte of the image, 0 past its end.
 fn byte_at(bytes: &[u8], i: usize) -> u8
@@ -65,8 +45,8 @@ pub fn put_last_lines(out: &mut [u8], tail: usize, number: u64) -> usize
 }
 
 // The line of an image that is cut short. Answers its length.
-pub fn put_image_line(out: &mut [u8], length: usize) -> usize
-    ensures { λ r. ⌜ Put (now (out .entry)) 0 (imageLine length) (now (out .exit)) r ⌝ }
+pub fn put_image_line(out: &mut [u8], bytes: usize) -> usize
+    ensures { λ r. ⌜ Put (now (out .entry)) 0 (imageLine bytes) (now (out .exit)) r ⌝ }
 {
-    put_image(out, 0, length as u64)
+    put_image(out, 0, bytes as u64)
 }

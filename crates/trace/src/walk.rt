@@ -6,7 +6,7 @@ ghost use Rattle.trace.specs.Walk.{Leaves, walkStart, walkRecord, walkAl
 use message::serve::message_from_bytes;
 use std::num::wrapping_add_u64;
 use text::line::put_line;
-use words::settings::Remembered;
+use words::remembered::Remembered;
 use words::settings::Settings;
 
 // What walking hands back: the remembered state, the last record's number, and how much text stands in the buffer.

@@ -1,4 +1,5 @@
 -- `move_pointer` meets its contract: one write, or none.
+use native.Mathlib.Omega.{arith}
 use borrow.Author.Needs.{needs}
 use native.Mathlib.Omega.{arith}
 use Rattle.memory.proofs.Places.{table-low}
@@ -13,7 +14,7 @@ cast-put : tie.Need-cast-put
 cast-put c = search needs
 
 add-put : tie.Need-add-put
-add-put c = omega (arith, table-low (c .before .before .before .before .before .before .before .args .s .area))
+add-put c = omega (arith, table-low (c .before .before .before .before .before .args .s .area))
 
 put-requires : tie.Need-put-requires
 put-requires c κs = search needs
@@ -22,8 +23,7 @@ same-length : tie.Need-same-length
 same-length c = search needs
 
 returns : tie.Need-returns
-returns c =
-    let p = c .before .before in
+returns c = let p = c .before .before in
     let k = p .before .before in
     pointer-moved _ _ _ _ _ (k .before .before .if1 .taken) (k .lookup-table .ensures) (p .put .ensures)
 

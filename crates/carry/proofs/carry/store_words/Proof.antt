@@ -1,10 +1,11 @@
 -- `store_words` meets its contract. The loop's invariant: the first `k` writes are made.
 use borrow.Author.Needs.{needs}
-use Prim.Native.Nat.{_≤_, _-_}
 use native.Mathlib.Omega.{arith}
+use Prim.Native.Nat.{_≤_, _-_}
 use mathlib.Core.Path.{_≡_, refl}
-use Rattle.carry.specs.Writes.{applyWrites, writesTo, dataWrites}
-use Rattle.carry.proofs.Writes.{apply-more, length-apply}
+use Rattle.carry.specs.Writes.{dataWrites}
+use Rattle.memory.specs.Writes.{applyWrites, writesTo}
+use Rattle.memory.proofs.Writes.{apply-more, length-apply}
 use Rattle.carry.proofs.carry.store_words.Statement.{statement}
 use Rattle.carry.proofs.carry.store_words.Tie as tie
 
@@ -21,14 +22,14 @@ loop-holds c = (omega arith, refl)
 place-requires : tie.Need-place-requires Inv-loop μ-loop
 place-requires c κs = search needs
 
-cast-put : tie.Need-cast-put Inv-loop μ-loop
-cast-put c = search needs
+slice-aggregate-word-at : tie.Need-slice-aggregate-word-at Inv-loop μ-loop
+slice-aggregate-word-at c = search needs
 
-mul-put : tie.Need-mul-put Inv-loop μ-loop
-mul-put c = search needs
+cast-word-at : tie.Need-cast-word-at Inv-loop μ-loop
+cast-word-at c = search needs
 
-array-read-put : tie.Need-array-read-put Inv-loop μ-loop
-array-read-put c = search needs
+word-at-requires : tie.Need-word-at-requires Inv-loop μ-loop
+word-at-requires c κs = search needs
 
 put-requires : tie.Need-put-requires Inv-loop μ-loop
 put-requires c κs = search needs
@@ -40,10 +41,10 @@ loop-less : tie.Need-loop-less Inv-loop μ-loop
 loop-less c = search needs
 
 loop-again : tie.Need-loop-again Inv-loop μ-loop
-loop-again c =
-    let p = c .before .before in
-    let l = p .before .before .before .before .loop in
-    (omega arith, rw (apply-more, p .put .ensures, p .before .place .ensures, l .inv .1))
+loop-again c = let p = c .before .before in
+    let q = p .before .before .before in
+    let l = q .before .before .before .loop in
+    (omega arith, rw (apply-more, p .put .ensures, p .before .word-at .ensures, q .place .ensures, l .inv .1))
 
 same-length : tie.Need-same-length Inv-loop μ-loop
 same-length c = rw (c .before .loop .inv .1, length-apply)
@@ -59,9 +60,9 @@ store-words-spec =
     μ-loop
     loop-holds
     place-requires
-    cast-put
-    mul-put
-    array-read-put
+    slice-aggregate-word-at
+    cast-word-at
+    word-at-requires
     put-requires
     add-k
     loop-less

@@ -14,9 +14,8 @@ same-length : tie.Need-same-length
 same-length c = search needs
 
 returns : tie.Need-returns
-returns c =
-    let p = c .before .before .before .before .before .before in
-    reply-sent _ _ _ _ _ (p .before .before .before .before .before .if1 .taken) (p .put .ensures) (c .before .before .send-words .ensures)
+returns c = let p = c .before .before .before .before .before .before in
+    reply-sent _ _ _ _ _ (p .before .before .before .if1 .taken) (p .put .ensures) (c .before .before .send-words .ensures)
 
 returns-2 : tie.Need-returns-2
 returns-2 c = reply-none _ _ _ (c .if1 .left)

@@ -3,9 +3,9 @@ use borrow.Author.Needs.{needs}
 use Prim.Native.Nat.{_≤_, _-_}
 use native.Mathlib.Omega.{arith}
 use mathlib.Core.Path.{_≡_, refl}
-use Rattle.carry.specs.Writes.{applyWrites, writesTo}
+use Rattle.memory.specs.Writes.{applyWrites, writesTo}
 use Rattle.carry.specs.Reply.{sentWrites}
-use Rattle.carry.proofs.Writes.{apply-more, length-apply}
+use Rattle.memory.proofs.Writes.{apply-more, length-apply}
 use Rattle.carry.proofs.reply.send_words.Statement.{statement}
 use Rattle.carry.proofs.reply.send_words.Tie as tie
 

@@ -1,5 +1,6 @@
 -- `well_formed` meets its contract: the three tests of a record.
 use borrow.Author.Needs.{needs}
+use mathlib.Core.Bool.{Bool·not-not}
 use Rattle.exchange.specs.Condition.{wellFormed}
 use Rattle.exchange.proofs.neighbours.well_formed.Statement.{statement}
 use Rattle.exchange.proofs.neighbours.well_formed.Tie as tie
@@ -36,6 +37,7 @@ returns c =
       c .before .before .before .before .no .ensures,
       c .before .before .before .before .before .is-not-ours .ensures,
       c .before .before .before .before .before .before .keeps-layout .ensures,
+      Bool·not-not,
     )
 
 pub well-formed-spec : {M : Type 1} → statement M

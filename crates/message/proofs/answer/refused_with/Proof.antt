@@ -1,4 +1,5 @@
 -- `refused_with` meets its contract: the number, the rest zero.
+use borrow.Author.Needs.{needs}
 use mathlib.Core.Path.{refl}
 use Rattle.message.specs.Answer.{refusedWith}
 use Rattle.message.proofs.answer.refused_with.Statement.{statement}

@@ -1,6 +1,6 @@
 -- `accept` meets its contract: the plan's answer, its writes and its reply.
 use borrow.Author.Needs.{needs}
-use Rattle.decide.proofs.Reach.{plan-stored}
+use Rattle.message.proofs.Carried.{plan-left}
 use Rattle.message.proofs.serve.accept.Statement.{statement}
 use Rattle.message.proofs.serve.accept.Tie as tie
 
@@ -11,11 +11,10 @@ send-requires : tie.Need-send-requires
 send-requires c κs = search needs
 
 carry-out-requires : tie.Need-carry-out-requires
-carry-out-requires c κs =
-    rw (c .before .before .before .before .before .before .before .plan-of .ensures) (plan-stored _ _ _)
+carry-out-requires c κs = search needs
 
-accepted-outcome-requires : tie.Need-accepted-outcome-requires
-accepted-outcome-requires c κs = search needs
+accepted-with-requires : tie.Need-accepted-with-requires
+accepted-with-requires c κs = search needs
 
 same-length : tie.Need-same-length
 same-length c = search needs
@@ -24,13 +23,10 @@ same-length-2 : tie.Need-same-length-2
 same-length-2 c = search needs
 
 returns : tie.Need-returns
-returns c =
-    let carried = c .before .before .before in
+returns c = let carried = c .before .before .before in
     let sent = carried .before .before .before .before in
-    let e = sent .before .before .before .before .plan-of .ensures in (
-      rw (c .accepted-outcome .ensures, e),
-      (rw (carried .carry-out .ensures, e), rw (sent .send .ensures, e)),
-    )
+    let e = sent .before .before .before .before .plan-of .ensures in
+    (rw (c .accepted-with .ensures, e), plan-left _ _ _ _ _ _ _ _ _ e (sent .send .ensures) (carried .carry-out .ensures))
 
 pub accept-spec : {M : Type 1} → statement M
 accept-spec =
@@ -39,7 +35,7 @@ accept-spec =
     plan-of-requires
     send-requires
     carry-out-requires
-    accepted-outcome-requires
+    accepted-with-requires
     same-length
     same-length-2
     returns)

@@ -1,48 +1,45 @@
--- `message_from_bytes` meets its contract: the reader's number stands for tests 4 and 5.
+-- `message_from_bytes` meets its contract: the reader's number, and else the message of the value that it gives.
 use borrow.Author.Needs.{needs}
-use borrow.Author.Tests.{ne-eqb}
-use mathlib.Core.Path.{_≡_, _∙_, sym}
-use Rattle.layout.specs.Layout.{wrongLength, breaksLayout, valueIn, readRecord}
-use Rattle.message.specs.Message.{outcomeOfBytes, ramAfterBytes, replyAfterBytes}
-use Rattle.message.proofs.FromBytes.{form-number, value-read}
-use Rattle.message.proofs.FromRecord.{stops-early, stops-behind, number-late}
+use mathlib.Core.Path.{_≡_, sym, ap, _∙_}
+use Rattle.layout.specs.declared.reader.Reading.{Reading}
+use Rattle.layout.specs.Layout.{readRecord}
+use Rattle.memory.specs.State.{stateOf}
+use Rattle.message.specs.Heard.{heardBytes}
+use Rattle.message.specs.Message.{answerOf, step}
+use Rattle.message.proofs.Refusals.{stopped}
+use Rattle.message.proofs.InTurn.{stops-early, stops-record, passes-record}
+use Rattle.message.proofs.FromBytes.{record-number, value-read}
 use Rattle.message.proofs.serve.message_from_bytes.Statement.{statement}
 use Rattle.message.proofs.serve.message_from_bytes.Tie as tie
 
 early-refusal-requires : tie.Need-early-refusal-requires
 early-refusal-requires c κs = search needs
 
-refused-outcome-requires : tie.Need-refused-outcome-requires
-refused-outcome-requires c κs = search needs
+refuse-requires : tie.Need-refuse-requires
+refuse-requires c κs = search needs
 
 returns : tie.Need-returns
-unfolding outcomeOfBytes ramAfterBytes replyAfterBytes
-returns c =
-    let a = c .before .before .before .before .before .before .args in
-    let b = a .bytes .now in
-    let u =
-    stops-early (a .ram .now) (a .reply .now) (a .s) (a .before) (wrongLength b) (breaksLayout b) (valueIn b) _
-    (c .before .before .early-refusal .ensures) (c .before .if1 .taken) in
-    (c .refused-outcome .ensures ∙ sym (u .outcome), (sym (u .words), sym (u .buffer)))
+returns c = let a = c .before .before .before .before .before .before .args in
+    let h = heardBytes (a .bytes .now) in
+    let x = stateOf (a .ram .now) (a .reply .now) (a .before) in
+    let m = c .before .if1 .taken in
+    rw (c .refuse .ensures) (stopped (a .s) h x _ (stops-early (a .s) h x _ (c .before .before .early-refusal .ensures) m) m)
 
 read-requires : tie.Need-read-requires
 read-requires c κs = search needs
 
-refused-outcome-requires-2 : tie.Need-refused-outcome-requires-2
-refused-outcome-requires-2 c κs = search needs
+refuse-requires-2 : tie.Need-refuse-requires-2
+refuse-requires-2 c κs = search needs
 
 returns-2 : tie.Need-returns-2
-unfolding outcomeOfBytes ramAfterBytes replyAfterBytes
-returns-2 c =
-    let t = c .before .before .before .before in
+returns-2 c = let t = c .before .before .before .before in
     let a = t .before .before .before .before .before .args in
+    let h = heardBytes (a .bytes .now) in
+    let x = stateOf (a .ram .now) (a .reply .now) (a .before) in
     let passed = sym (t .before .early-refusal .ensures) ∙ t .if1 .left in
-    let b = a .bytes .now in
     let m = c .before .if2 .taken in
-    let u =
-    stops-behind (a .ram .now) (a .reply .now) (a .s) (a .before) (wrongLength b) (breaksLayout b) (valueIn b) passed _
-    (form-number b _ ∙ rw (← (c .before .before .before .read .ensures), ne-eqb _ 0 m)) m in
-    (c .refused-outcome2 .ensures ∙ sym (u .outcome), (sym (u .words), sym (u .buffer)))
+    let e = record-number (a .bytes .now) ∙ ap (λ (r : Reading). r .number) (sym (c .before .before .before .read .ensures)) in
+    rw (c .refuse2 .ensures) (stopped (a .s) h x _ (stops-record (a .s) h x passed _ e m) m)
 
 serve-requires : tie.Need-serve-requires
 serve-requires c κs = search needs
@@ -54,31 +51,29 @@ same-length-2 : tie.Need-same-length-2
 same-length-2 c = search needs
 
 returns-3 : tie.Need-returns-3
-unfolding outcomeOfBytes ramAfterBytes replyAfterBytes
-returns-3 c =
-    let t = c .before .before .before .before .before .before .before .before .before .before .before in
+unfolding answerOf step
+returns-3 c = let t = c .before .before .before .before .before .before .before .before .before .before .before in
     let a = t .before .before .before .before .before .args in
+    let h = heardBytes (a .bytes .now) in
+    let x = stateOf (a .ram .now) (a .reply .now) (a .before) in
     let passed = sym (t .before .early-refusal .ensures) ∙ t .if1 .left in
     let e = c .before .before .before .before .before .before .before .before .before .before .read .ensures in
     let good = c .before .before .before .before .before .before .before .before .if2 .left in
-    let b = a .bytes .now in
-    let taken : readRecord b .number ≡ 0 = rw (← e) good in
-    let number =
-    number-late (a .ram .now) (a .reply .now) (a .s) (a .before) (wrongLength b) (breaksLayout b) (valueIn b) passed
-    (form-number b _ ∙ rw taken) in
-    let same = value-read b taken in
+    let taken : readRecord (a .bytes .now) .number ≡ 0 = rw (← e) good in
+    let number = passes-record (a .s) h x passed (record-number (a .bytes .now) ∙ taken) in
+    let same = value-read (a .bytes .now) taken in
     let k = rw e at (c .before .before .before .before .serve .ensures) in
-    (rw (number, ← same) (k .0), (rw (number, ← same) (k .1 .0), rw (number, ← same) (k .1 .1)))
+    (rw (number, ← same) (k .0), rw (number, ← same) (k .1))
 
 pub message-from-bytes-spec : {M : Type 1} → statement M
 message-from-bytes-spec =
     tie.close
     (tie.spec
     early-refusal-requires
-    refused-outcome-requires
+    refuse-requires
     returns
     read-requires
-    refused-outcome-requires-2
+    refuse-requires-2
     returns-2
     serve-requires
     same-length

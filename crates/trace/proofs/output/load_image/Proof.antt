@@ -5,8 +5,8 @@ use mathlib.Core.Path.{_≡_, refl}
 use lib.ListN.{length, length-set}
 use denote.Ref.{now}
 use borrow.Author.Needs.{needs}
-use Rattle.records.specs.Fill.{fillFrom, fill}
-use Rattle.records.proofs.Fill.{fill-more}
+use Rattle.words.specs.Fill.{fillFrom, fill}
+use Rattle.words.proofs.Fill.{fill-more}
 use Rattle.layout.specs.Layout.{wordAt}
 use Rattle.trace.specs.Output.{imageInto}
 use Rattle.trace.proofs.output.load_image.Statement.{statement}

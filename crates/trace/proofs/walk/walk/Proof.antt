@@ -6,7 +6,7 @@ use lib.ListN.{length}
 use denote.Ref.{now}
 use borrow.Author.Needs.{needs}
 use Rattle.trace.specs.Walk.{walkTo, walkStart, walkAll}
-use Rattle.trace.proofs.Walks.{Stands, stands-none, stands-more, stands-place}
+use Rattle.trace.proofs.Walks.{Stands, stands-none, stands-more, stands-place, stands-back}
 use Rattle.trace.proofs.walk.walk.Statement.{statement}
 use Rattle.trace.proofs.walk.walk.Tie as tie
 
@@ -75,7 +75,7 @@ unfolding walkAll
 returns c =
     let e : c .before .loop .i ≡ length (now (c .before .before .before .before .before .before .args .trace)) / 80 = omega arith in
     let t = rw e at (c .before .loop .inv .1 .0) in
-    (t .back, (t .memory, (t .answer, t .text)))
+    (stands-back t, (λ i. t .state i .ram, (λ i. t .state i .reply, t .text)))
 
 pub walk-spec : {M : Type 1} → statement M
 walk-spec =

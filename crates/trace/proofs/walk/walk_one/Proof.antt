@@ -1,6 +1,5 @@
 -- `walk_one` meets its contract.
 use borrow.Author.Needs.{needs}
-use Rattle.message.specs.Run.{stepBytes}
 use Rattle.trace.specs.Walk.{walkRecord}
 use Rattle.trace.proofs.walk.walk_one.Statement.{statement}
 use Rattle.trace.proofs.walk.walk_one.Tie as tie
@@ -24,12 +23,12 @@ same-length-3 : tie.Need-same-length-3
 same-length-3 c = search needs
 
 returns : tie.Need-returns
-unfolding walkRecord stepBytes
+unfolding walkRecord
 returns c =
     let p = c .before .before .put-line .ensures in
     let n = c .before .before .before .before .wrapping-add-u64 .ensures in
     let m = c .before .before .before .before .before .before .before .before .before .before .before .message-from-bytes .ensures in
-    record { memory = m .1 .0; answer = m .1 .1; line = rw (p .bytes, n, m .0); back = rw (p .place, n, m .0) }
+    record { state = m .1; line = rw (p .bytes, n, m .0); number = n; used = rw (p .place, n, m .0) }
 
 pub walk-one-spec : {M : Type 1} → statement M
 walk-one-spec =

@@ -1,0 +1,64 @@
+// Rules 7 and 8: block status and status word.
+ghost use mathlib.Core.Path.{_≡_};
+ghost use Rattle.deed.specs.Report.{blockStatus, statusBits, statusWord};
+use arrival::target::Target;
+use records::fault::Faults;
+use records::fault::any_fault;
+use words::bits::word_of;
+use words::choose::either;
+use words::choose::no;
+use words::settings::Settings;
+
+pub(crate) fn block_status(second_bus: bool, f: Faults, rollover: bool, illegal: bool) -> u16
+    ensures { λ r. ⌜ r ≡ blockStatus «second_bus» f rollover illegal ⌝ }
+{
+    let fault = any_fault(f);
+    word_of([
+        true,
+        false,
+        second_bus,
+        fault,
+        false,
+        fault,
+        false,
+        false,
+        rollover,
+        illegal,
+        f.count,
+        f.sync,
+        f.invalid,
+        false,
+        false,
+        f.contents,
+    ])
+}
+
+fn status_bits(s: Settings, t: Target, valid: bool) -> u16
+    ensures { λ r. ⌜ r ≡ statusBits s t valid ⌝ }
+{
+    let error = either(no(valid), t.illegal);
+    word_of([
+        false,
+        false,
+        false,
+        false,
+        false,
+        error,
+        false,
+        s.service_request,
+        false,
+        false,
+        false,
+        t.broadcast,
+        t.busy,
+        s.subsystem_flag,
+        false,
+        s.terminal_flag,
+    ])
+}
+
+pub(crate) fn status_word(s: Settings, t: Target, valid: bool) -> u16
+    ensures { λ r. ⌜ r ≡ statusWord s t valid ⌝ }
+{
+    0x0800 * (s.address % 32) + status_bits(s, t, valid)
+}
