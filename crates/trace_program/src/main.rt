@@ -2,36 +2,31 @@
 //
 // Thin: what is printed is settled in the library. A refill is a whole number of records, so none is split, and all lines of a
 // refill are written at once.
+mod streams;
+
 ghost use Prim.Native.Nat.{_≤_};
 ghost use lib.ListN.{length};
-use libc::STDIN_FILENO;
-use libc::STDOUT_FILENO;
+use streams::fill;
+use streams::print;
 use trace::output::load_image;
-use trace::output::program_settings;
 use trace::output::put_image_line;
 use trace::output::put_last_lines;
 use trace::walk::walk;
-use words::settings::Remembered;
-use words::settings::nothing_remembered;
+use words::remembered::Remembered;
+use words::remembered::nothing_remembered;
+use words::settings::program_settings;
 
-// Where the walk stands after a refill: how many bytes are left over, whether the lines were written, and whether the input may
-// go on.
+// Where the walk stands after a refill: how many bytes are left over, whether nothing failed so far, and whether the input may go
+// on.
 struct Standing {
     remembered: Remembered,
     number: u64,
     left: usize,
-    written: bool,
+    well: bool,
     more: bool,
 }
 
-// Writes the text at the front of the buffer.
-fn print(out: &[u8], used: usize) -> bool
-    requires { ⌜ used ≤ length (now out) ⌝ }
-{
-    io::write_all(STDOUT_FILENO, &out[..used])
-}
-
-// Fills the buffer, walks its whole records and writes their lines. A short fill is the end of the input.
+// Fills the buffer, walks its whole records and writes their lines. A short fill is the end of the input, or reading failed.
 fn refill(
     ram: &mut [u16],
     reply: &mut [u16],
@@ -41,7 +36,8 @@ fn refill(
 ) -> Standing
     requires { ⌜ length (now buffer) ≤ length (now out) ⌝ }
 {
-    let got = io::read_full(STDIN_FILENO, buffer);
+    let filled = fill(buffer);
+    let got = filled.got;
     let before = at.remembered;
     let w = walk(
         ram,
@@ -58,13 +54,13 @@ fn refill(
         remembered,
         number: w.number,
         left: got % 80,
-        written,
+        well: written && !filled.failed,
         more: written && got == buffer.len(),
     }
 }
 
-// A proved loop has to end, and nothing says that an input does. So it counts down from a number that no run uses up. After a
-// line that could not be written no end line follows.
+// A proved loop has to end, and nothing says that an input does. So it counts down from a number that no run uses up. No end
+// line follows where reading or writing failed.
 fn run(ram: &mut [u16], reply: &mut [u16], buffer: &mut [u8], out: &mut [u8])
     requires { ⌜ (length (now buffer) ≤ length (now out)) × (100 ≤ length (now out)) ⌝ }
 {
@@ -73,7 +69,7 @@ fn run(ram: &mut [u16], reply: &mut [u16], buffer: &mut [u8], out: &mut [u8])
         remembered,
         number: 0,
         left: 0,
-        written: true,
+        well: true,
         more: true,
     };
     let mut turns = u64::MAX;
@@ -81,7 +77,7 @@ fn run(ram: &mut [u16], reply: &mut [u16], buffer: &mut [u8], out: &mut [u8])
         at = refill(ram, reply, buffer, out, at);
         turns -= 1;
     }
-    if at.written {
+    if at.well {
         let used = put_last_lines(out, at.left, at.number);
         print(out, used);
     }
@@ -97,7 +93,11 @@ fn image_and_trace(
 )
     requires { ⌜ (length (now buffer) ≤ length (now out)) × (100 ≤ length (now out)) ⌝ }
 {
-    let got = io::read_full(STDIN_FILENO, image);
+    let filled = fill(image);
+    if filled.failed {
+        return;
+    }
+    let got = filled.got;
     if got < image.len() {
         let used = put_image_line(out, got);
         print(out, used);

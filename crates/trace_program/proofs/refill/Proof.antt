@@ -5,8 +5,8 @@ use Rattle.trace.proofs.Printed.{used-fits}
 use Rattle.trace_program.proofs.refill.Statement.{statement}
 use Rattle.trace_program.proofs.refill.Tie as tie
 
-read-full-requires : tie.Need-read-full-requires
-read-full-requires c κs = search needs
+fill-requires : tie.Need-fill-requires
+fill-requires c κs = search needs
 
 program-settings-requires : tie.Need-program-settings-requires
 program-settings-requires c κs = search needs
@@ -57,7 +57,7 @@ pub refill-spec : {M : Type 1} → statement M
 refill-spec =
     tie.close
     (tie.spec
-    read-full-requires
+    fill-requires
     program-settings-requires
     slice-reshare-prefix-walk
     slice-aggregate-walk

@@ -1,0 +1,100 @@
+// What stands between two lines of a script: settings, the remembered state, how many words of RAM and reply are lent, and the
+// record at hand.
+use crate::lines::Numbers;
+use crate::names;
+use crate::ram::fill;
+use memory::ram::put;
+use message::answer::Outcome;
+use records::value::Record;
+use words::remembered::Remembered;
+use words::settings::Area;
+use words::settings::Settings;
+
+pub(crate) struct Bench {
+    pub settings: Settings,
+    pub remembered: Remembered,
+    pub ram: usize,
+    pub room: usize,
+    pub record: Record,
+}
+
+// RAM of zeros and a reply of EEEE; 4,096 and 33 words of them are lent.
+pub(crate) fn cleared(ram: &mut [u16; 4352], reply: &mut [u16; 64]) -> Bench {
+    fill(ram, 0, 4352, 0, 0);
+    fill(reply, 0, 64, 0xEEEE, 0);
+    let settings = settings(5, 0, 256, 1);
+    let remembered = words::remembered::nothing_remembered();
+    let record = records::value::zero_value();
+    Bench {
+        settings,
+        remembered,
+        ram: 4096,
+        room: 33,
+        record,
+    }
+}
+
+// The yes/no settings are bits of `yes`, lowest first in document 01's order.
+pub(crate) fn settings(address: u16, second: u16, size: u16, yes: u16) -> Settings {
+    let area = if second == 0 { Area::A } else { Area::B };
+    Settings {
+        address,
+        area,
+        stack_size: size,
+        overwrite_invalid: yes % 2 == 1,
+        separate_broadcast: yes / 2 % 2 == 1,
+        illegal_receive_disable: yes / 4 % 2 == 1,
+        busy_receive_disable: yes / 8 % 2 == 1,
+        busy_always: yes / 16 % 2 == 1,
+        service_request: yes / 32 % 2 == 1,
+        subsystem_flag: yes / 64 % 2 == 1,
+        terminal_flag: yes / 128 % 2 == 1,
+    }
+}
+
+// Command, count, flags, first word, step to the next, tag; as many words as the count says.
+fn record_of(n: Numbers) -> Record {
+    let mut words = [0u16; 32];
+    fill(&mut words, 0, n.b, n.d, n.e);
+    Record {
+        command: n.a,
+        tag: n.f,
+        flags: (n.c % 256) as u8,
+        count: (n.b % 256) as u8,
+        words,
+    }
+}
+
+// The bench after a line that changes the settings, the lengths, the record, or a word of the record.
+pub(crate) fn built(b: Bench, name: u64, n: Numbers) -> Bench {
+    let mut next = b;
+    match name {
+        names::SET => {
+            let s = settings(n.a, n.b, n.c, n.d);
+            next.settings = s;
+        }
+        names::LEND => {
+            next.ram = n.a as usize;
+            next.room = n.b as usize;
+        }
+        names::WORD => {
+            let mut v = b.record;
+            let mut words = v.words;
+            put(&mut words, n.a as usize, n.b);
+            v.words = words;
+            next.record = v;
+        }
+        _ => {
+            let v = record_of(n);
+            next.record = v;
+        }
+    }
+    next
+}
+
+pub(crate) fn after(b: Bench, o: Outcome) -> Bench {
+    let mut next = b;
+    let r = o.remembered;
+    next.remembered = r;
+    next
+}
