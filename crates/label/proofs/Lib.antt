@@ -1,0 +1,11 @@
+pub mod Stored
+pub mod Turns
+pub mod Meeting
+pub mod Most
+pub mod Spans
+pub mod Refused
+pub mod Members
+pub mod Shared
+pub mod Answers
+pub mod Named
+pub mod Determined

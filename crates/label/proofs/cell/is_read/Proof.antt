@@ -1,0 +1,25 @@
+-- `is_read` meets its contract: the same tests.
+use borrow.Author.Needs.{needs}
+use Rattle.area.specs.Area.{isRead}
+use Rattle.label.proofs.cell.is_read.Statement.{statement}
+use Rattle.label.proofs.cell.is_read.Tie as tie
+
+both-requires : tie.Need-both-requires
+both-requires c κs = search needs
+
+both-requires-2 : tie.Need-both-requires-2
+both-requires-2 c κs = search needs
+
+either-requires : tie.Need-either-requires
+either-requires c κs = search needs
+
+both-requires-3 : tie.Need-both-requires-3
+both-requires-3 c κs = search needs
+
+returns : tie.Need-returns
+unfolding isRead
+returns c = rw (c .both3 .ensures, c .before .either .ensures, c .before .before .both2 .ensures, c .before .before .before .both .ensures)
+
+pub is-read-spec : {M : Type 1} → statement M
+is-read-spec =
+    tie.close (tie.spec both-requires both-requires-2 either-requires both-requires-3 returns)
