@@ -1,0 +1,43 @@
+-- Where RAM and settings are not refused, no record is refused for RAM, room or settings.
+use Prim.Native.Nat.{ℕ}
+use mathlib.Core.Path.{_≡_, refl, sym, _∙_}
+use mathlib.Core.List.{[], _∷_}
+use lib.Dec.{leb}
+use Rattle.words.specs.declared.settings.Settings.{Settings}
+use Rattle.words.specs.Number.{ramLength, badSettings, addressBeyond}
+use Rattle.words.specs.Refusal.{_when_, firstOf}
+use Rattle.words.proofs.Refusals.{accepted, first-stops, first-passes}
+use Rattle.message.specs.Tests.{earlyTests}
+use Rattle.who.specs.Tests.{replayTests, replayRefusal, whoTests, whoRefusal}
+
+pub replay-early :
+    (words : ℕ) (s : Settings) (n : ℕ) → n ≡ replayRefusal words s → n ≡ 0 → firstOf (earlyTests words 33 s) ≡ 0
+unfolding replayRefusal firstOf
+replay-early words s n e z =
+    let t = accepted (replayTests words s) refl (sym e ∙ z) in
+    rw (t ramLength, t badSettings)
+
+-- the question's tests are those and one more
+pub asked-replay : (words : ℕ) (s : Settings) (a : ℕ) → whoRefusal words s a ≡ 0 → replayRefusal words s ≡ 0
+unfolding replayRefusal whoRefusal firstOf
+asked-replay words s a e =
+    let t = accepted (whoTests words s a) refl e in
+    rw (t ramLength, t badSettings)
+
+pub asked-early :
+    (words : ℕ) (s : Settings) (a n : ℕ) → n ≡ whoRefusal words s a → n ≡ 0 → firstOf (earlyTests words 33 s) ≡ 0
+asked-early words s a n e z = replay-early words s 0 (sym (asked-replay words s a (sym e ∙ z))) refl
+
+-- tested in turn
+pub who-stops : (words : ℕ) (s : Settings) (a n : ℕ) → n ≡ replayRefusal words s → (n ≡ 0 → ⊥) → n ≡ whoRefusal words s a
+unfolding replayRefusal whoRefusal
+who-stops words s a n e m =
+    e ∙ sym (first-stops (replayTests words s) (addressBeyond when leb words a ∷ []) refl (λ z. m (e ∙ z)))
+
+pub who-passes :
+    (words : ℕ) (s : Settings) (a n : ℕ) →
+    n ≡ replayRefusal words s →
+    n ≡ 0 →
+    whoRefusal words s a ≡ firstOf (addressBeyond when leb words a ∷ [])
+unfolding replayRefusal whoRefusal
+who-passes words s a n e z = first-passes (replayTests words s) (addressBeyond when leb words a ∷ []) refl (sym e ∙ z)

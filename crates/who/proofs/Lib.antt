@@ -1,0 +1,15 @@
+pub mod Last
+pub mod Placed
+pub mod Early
+pub mod Taking
+pub mod Recorded
+pub mod Turns
+pub mod Alike
+pub mod Answers
+pub mod Parts
+pub mod Beside
+pub mod Marked
+pub mod Filling
+pub mod Marks
+pub mod Tables
+pub mod Determined

@@ -1,0 +1,9 @@
+pub mod Tests
+pub mod Taken
+pub mod Origin
+pub mod Values
+pub mod Placed
+pub mod Replay
+pub mod Answered
+pub mod Mark
+pub mod Table

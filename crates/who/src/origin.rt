@@ -1,0 +1,115 @@
+// Where a word comes from, worked out from a message's plan.
+ghost use mathlib.Core.Path.{_≡_};
+ghost use Prim.Native.Nat.{_≤_, _<_};
+ghost use Rattle.who.specs.Origin.{written};
+ghost use Rattle.who.specs.Placed.{stackWord, stepsTo, dataWord, whoWrote};
+use decide::plan::Plan;
+use memory::map::lookup_table;
+use memory::map::stack_pointer_place;
+use windows::window::Window;
+use words::choose::both;
+use words::settings::Settings;
+
+// What a message's write is.
+pub enum Part {
+    // a data word, by its place in the message, counted from 1
+    Data(u16),
+    // the lookup pointer of the message's cell
+    Pointer,
+    // a word of the descriptor: 1 block status, 2 time tag, 3 lookup pointer before the message, 4 command
+    Stack(u16),
+    StackPointer,
+}
+
+// A write: the number of its record, counted from 1, the cell of its message, and which of the message's writes it is.
+pub struct Origin {
+    pub number: u64,
+    pub cell: u16,
+    pub part: Part,
+}
+
+// The answer.
+pub enum Who {
+    Refused(u16),
+    AsInImage,
+    Written(Origin),
+}
+
+fn written_as(number: u64, cell: u16, part: Part) -> Who
+    ensures { λ r. ⌜ r ≡ written number cell part ⌝ }
+{
+    let origin = Origin { number, cell, part };
+    Who::Written(origin)
+}
+
+// Which word of a descriptor at `pointer` the address is, counted from 1; 0 where it is none.
+fn stack_word(pointer: u16, address: u16) -> u16
+    ensures { λ r. ⌜ r ≡ stackWord pointer address ⌝ }
+{
+    if address < pointer {
+        return 0;
+    }
+    let steps = address - pointer;
+    if steps < 4 { steps + 1 } else { 0 }
+}
+
+// How far an address of a window lies behind its pointer, wrapping.
+fn steps_to(w: Window, a: usize) -> usize
+    requires { ⌜ (w .offset ≤ w .size) × ((w .start ≤ a) × (a < 65536)) ⌝ }
+    ensures { λ r. ⌜ r ≡ stepsTo w a ⌝ }
+{
+    let pointer = w.start as usize + w.offset as usize;
+    if a < pointer {
+        return a + w.size as usize - pointer;
+    }
+    a - pointer
+}
+
+// Which of the first n words from a window's pointer on the address is, counted from 1; 0 where it is none.
+fn data_word(w: Window, n: u16, address: u16) -> u16
+    requires { ⌜ w .offset ≤ w .size ⌝ }
+    ensures { λ r. ⌜ r ≡ dataWord w n address ⌝ }
+{
+    let a = address as usize;
+    let start = w.start as usize;
+    if a < start {
+        return 0;
+    }
+    if start + w.size as usize <= a {
+        return 0;
+    }
+    let steps = steps_to(w, a);
+    if steps < n as usize {
+        (steps + 1) as u16
+    } else {
+        0
+    }
+}
+
+// Who put the word at an address where it is, after the message of a plan. The parts of the list of writes are asked from its last to
+// its first, so that the last write that names the address is found without walking the list.
+pub(crate) fn who_wrote(s: Settings, p: Plan, address: u16, number: u64, before: Who) -> Who
+    requires { ⌜ p .deed .window .offset ≤ p .deed .window .size ⌝ }
+    ensures { λ r. ⌜ r ≡ whoWrote s p address number before ⌝ }
+{
+    let deed = p.deed;
+    let entry = p.entry;
+    let area = s.area;
+    let a = address as usize;
+    if a == stack_pointer_place(area) {
+        return written_as(number, deed.cell, Part::StackPointer);
+    }
+    let stack = stack_word(entry.pointer, address);
+    if stack != 0 {
+        return written_as(number, deed.cell, Part::Stack(stack));
+    }
+    if both(deed.moves, a == lookup_table(area) + deed.cell as usize) {
+        return written_as(number, deed.cell, Part::Pointer);
+    }
+    let window = deed.window;
+    let data = data_word(window, deed.stored, address);
+    if data != 0 {
+        return written_as(number, deed.cell, Part::Data(data));
+    }
+    before
+}
