@@ -1,16 +1,44 @@
-/* The proved terminal, for callers in C and Rust. Link target/staticlib/libboundary.a ('rt staticlib boundary'; x86-64).
+/* The proved terminal, for callers in C and Rust. scripts/library builds what to link: target/staticlib/libboundary.a,
+ * for x86-64.
  *
- * Every function ends with an answer for any contents of what is lent; a length that is short counts as zeros that are
- * read and words that are dropped. A slice passes as a pointer and then a length, and no two of a call may overlap where
- * one of them is written.
+ * Every function returns, with an answer for any contents and any lengths of what is lent, and writes nothing else.
  *
- * settings, 11 words: RT address; area (0 is A, any other word B); stack size in words; then yes/no (0 is no):
- *   overwrite-invalid, separate-broadcast, illegal-receive-disable, busy-receive-disable, busy-always, service request,
- *   subsystem flag, terminal flag.
- * remembered, 2 words: last command, last status. Both 0 at first.
- * value, 36 words: command, time tag, flags, count, thirty-two words. A flags or count word over 255 counts as 255.
- * answer, 9 words: number, block status, cell number, pointer before, pointer after, status word, 1 where the status was
- *   sent and else 0, data words sent, interrupt word.
+ * A slice passes as a pointer and then a length, in words of 16 bits, in bytes or in numbers of 64 bits. The caller sees
+ * to three things:
+ *   - The pointer is aligned as C aligns what it points to (a word's address is even), and so much is there. With
+ *     length 0 the pointer is not followed: it may be NULL.
+ *   - Nothing that the function writes overlaps anything else of the same call.
+ *   - Until it returns, no other thread writes what is lent or reads what the function writes.
+ *
+ * Three lengths are refused where they are wrong: ram has 4,096 words, no more and no fewer; reply at least 33; a
+ * record that is read 80 bytes, no more and no fewer.
+ *
+ * All else may have any length. What is missing of settings, remembered or value is read as 0. What remembered, answer,
+ * value, listing, counts, unsound, pairs, numbers, marks, records, last, part or the bytes that are written have no room
+ * for is dropped; where they are longer, the rest keeps its contents.
+ *
+ * settings: RT address; area (0 is A, any other word B); stack size in words; then yes/no (0 is no): overwrite-invalid,
+ *   separate-broadcast, illegal-receive-disable, busy-receive-disable, busy-always, service request, subsystem flag,
+ *   terminal flag.
+ * remembered: last command, last status. Both 0 at first; lend each message what the one before left.
+ * value: command, time tag, flags, count, thirty-two words. A flags or count word over 255 counts as 255.
+ * answer: number, block status, cell number, pointer before, pointer after, status word, 1 where the status was sent
+ *   and else 0, data words sent, interrupt word.
+ * listing: how many cells are listed; then two words for each, in rising number: the cell's number, and 1 where it is
+ *   able to write or 0 where it only sends; then 0.
+ * counts: how many cells are unsound; how many pairs there are in all, whatever room pairs have.
+ * unsound: the numbers of the unsound cells, rising; then 0.
+ * pairs: a word for each pair, rising: the lower number in the high byte, the higher in the low byte.
+ *
+ * numbers, marks: for each address of RAM a number and a word, all 0 at first; a trace fills them, and
+ *   solkverva_who_entry tells what they say. Lend both with 4,096.
+ * records: one number, how many records of the trace have gone by, 0 at first.
+ * last: one number, that of the last record that wrote the word, counted from 1; 0 where it is as in the image.
+ * part: what that record wrote there (1 a data word, 2 a lookup pointer, 3 a word of the stack, 4 the stack pointer; 0
+ *   where the word is as in the image); the cell of its message; the place, counted from 1, of a data word in its
+ *   message or of a stack word in its descriptor, else 0.
+ *
+ * A cell's number is its subaddress, with 32 added to transmit and 64 for broadcast.
  */
 #ifndef SOLKVERVA_H
 #define SOLKVERVA_H
@@ -22,24 +50,89 @@
 extern "C" {
 #endif
 
-/* The whole-area check: the number in the upper 16 bits, the lowest unsound cell in the lower (with 9, else 0). */
+/* How long each is. */
+enum {
+    SOLKVERVA_RAM_WORDS = 4096,
+    SOLKVERVA_REPLY_WORDS = 33,
+    SOLKVERVA_SETTINGS_WORDS = 11,
+    SOLKVERVA_REMEMBERED_WORDS = 2,
+    SOLKVERVA_VALUE_WORDS = 36,
+    SOLKVERVA_ANSWER_WORDS = 9,
+    SOLKVERVA_LISTING_WORDS = 179, /* the most: how many, and two for each of 89 cells */
+    SOLKVERVA_COUNTS_WORDS = 2,
+    SOLKVERVA_UNSOUND_WORDS = 90,
+    SOLKVERVA_PAIRS_WORDS = 4005, /* the most there can be */
+    SOLKVERVA_PART_WORDS = 3,
+    SOLKVERVA_RECORD_BYTES = 80
+};
+
+/* The numbers, tested in this order: each function tests those about things that it is given, and the first that holds
+ * is its answer. With a refusal RAM, reply, remembered, pairs, numbers, marks and records keep their contents, and all
+ * else that is handed back is zero (but for the cell that the whole-area check adds to 9). */
+enum {
+    SOLKVERVA_DONE = 0,
+    SOLKVERVA_RAM_LENGTH = 1,      /* RAM is not 4,096 words */
+    SOLKVERVA_REPLY_ROOM = 2,      /* reply buffer under 33 words */
+    SOLKVERVA_BAD_SETTINGS = 3,    /* RT address over 30, or stack size not 256, 512, 1,024 or 2,048 */
+    SOLKVERVA_RECORD_LENGTH = 4,   /* record is not 80 bytes */
+    SOLKVERVA_RECORD_LAYOUT = 5,   /* record breaks its layout */
+    SOLKVERVA_OTHER_ADDRESS = 6,   /* not own address and not 31 */
+    SOLKVERVA_MODE_SUBADDRESS = 7, /* subaddress 0 or 31 */
+    SOLKVERVA_UNSOUND_STACK = 8,   /* stack unsound */
+    SOLKVERVA_UNSOUND_CELL = 9,    /* the message's cell unsound, or a cell of the area, or the cell that is asked for */
+    SOLKVERVA_ADDRESS_BEYOND = 12  /* an address beyond the RAM */
+};
+
+/* The whole-area check: the number (0, 1, 3, 8 or 9) in the upper 16 bits, and in the lower with 9 the lowest unsound
+ * cell, else 0. */
 uint32_t solkverva_check_area(const uint16_t *ram, size_t ram_words, const uint16_t *settings, size_t settings_words);
 
-/* One message from the bytes of a record: refusals 1 to 9. */
-void solkverva_message(uint16_t *ram, size_t ram_words, uint16_t *reply, size_t reply_words, const uint16_t *settings,
-                       size_t settings_words, uint16_t *remembered, size_t remembered_words, const uint8_t *bytes,
-                       size_t bytes_length, uint16_t *answer, size_t answer_words);
+/* One message from the bytes of a record: the number, 0 to 9. It is also the first word of answer, so an answer that is
+ * short or not lent at all (length 0) loses the other words only, and never whether RAM has changed. */
+uint16_t solkverva_message(uint16_t *ram, size_t ram_words, uint16_t *reply, size_t reply_words,
+                           const uint16_t *settings, size_t settings_words, uint16_t *remembered,
+                           size_t remembered_words, const uint8_t *bytes, size_t bytes_length, uint16_t *answer,
+                           size_t answer_words);
 
-/* One message from a record value: the same without 4. */
-void solkverva_message_value(uint16_t *ram, size_t ram_words, uint16_t *reply, size_t reply_words,
-                             const uint16_t *settings, size_t settings_words, uint16_t *remembered,
-                             size_t remembered_words, const uint16_t *value, size_t value_words, uint16_t *answer,
-                             size_t answer_words);
+/* One message from a record value: the same, but never 4. */
+uint16_t solkverva_message_value(uint16_t *ram, size_t ram_words, uint16_t *reply, size_t reply_words,
+                                 const uint16_t *settings, size_t settings_words, uint16_t *remembered,
+                                 size_t remembered_words, const uint16_t *value, size_t value_words, uint16_t *answer,
+                                 size_t answer_words);
 
-/* The record reader: 0, 4 or 5; the value's words, all zero with 4 and 5. */
+/* The label of one cell: which other cells' windows meet its window. The number: 0, 1, 3 or 8, or 9 for a cell that is
+ * unsound or that the whole-area check does not read. */
+uint16_t solkverva_label_cell(const uint16_t *ram, size_t ram_words, const uint16_t *settings, size_t settings_words,
+                              uint16_t cell, uint16_t *listing, size_t listing_words);
+
+/* The label of the whole area: the unsound cells, and each pair of other cells whose windows meet. The number: 0, 1, 3
+ * or 8. */
+uint16_t solkverva_label_area(const uint16_t *ram, size_t ram_words, const uint16_t *settings, size_t settings_words,
+                              uint16_t *counts, size_t counts_words, uint16_t *unsound, size_t unsound_words,
+                              uint16_t *pairs, size_t pairs_words);
+
+/* Who put each word where it is: goes on over all whole records of this part of a trace. RAM holds the image at first, and
+ * what the records leave afterwards; lend each part what the one before left. A refused record is counted and writes
+ * nothing. The number: 0, 1 or 3. */
+uint16_t solkverva_who_fill(uint16_t *ram, size_t ram_words, uint64_t *numbers, size_t numbers_length, uint16_t *marks,
+                            size_t marks_words, const uint16_t *settings, size_t settings_words, uint16_t *remembered,
+                            size_t remembered_words, uint64_t *records, size_t records_length, const uint8_t *trace,
+                            size_t trace_length);
+
+/* What the tables say of an address. The number: 0, or 12 for an address at or behind the end of numbers. */
+uint16_t solkverva_who_entry(const uint64_t *numbers, size_t numbers_length, const uint16_t *marks, size_t marks_words,
+                             uint16_t address, uint64_t *last, size_t last_length, uint16_t *part, size_t part_words);
+
+/* Who put the word at one address where it is, after a whole trace; a short tail is no record. RAM holds the image, and
+ * what the trace leaves afterwards. The number: 0, 1, 3 or 12. */
+uint16_t solkverva_who(uint16_t *ram, size_t ram_words, const uint16_t *settings, size_t settings_words,
+                       uint16_t address, const uint8_t *trace, size_t trace_length, uint64_t *last, size_t last_length,
+                       uint16_t *part, size_t part_words);
+
+/* The record reader: the number, 0, 4 or 5; the value's words, all zero with 4 and 5. */
 uint16_t solkverva_read(const uint8_t *bytes, size_t bytes_length, uint16_t *value, size_t value_words);
 
-/* The record writer: 0 or 5; eighty bytes, all zero with 5. */
+/* The record writer: the number, 0 or 5; eighty bytes, all zero with 5. */
 uint16_t solkverva_write(const uint16_t *value, size_t value_words, uint8_t *bytes, size_t bytes_length);
 
 #ifdef __cplusplus

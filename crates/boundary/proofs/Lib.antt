@@ -1,3 +1,9 @@
-pub mod Over
+pub mod Order
+pub mod Room
+pub mod Listed
+pub mod Called
 pub mod Filled
+pub mod Refused
+pub mod NotTold
+pub mod Halves
 pub mod Determined

@@ -1,1 +1,7 @@
-pub mod Boundary
+pub mod Over
+pub mod Setup
+pub mod Answers
+pub mod Values
+pub mod Labels
+pub mod Origins
+pub mod Call

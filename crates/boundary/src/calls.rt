@@ -3,15 +3,26 @@ ghost use mathlib.Core.Path.{_≡_};
 ghost use Rattle.layout.specs.Layout.{readRecord};
 ghost use Rattle.layout.specs.Writing.{writeRecord};
 ghost use Rattle.area.specs.Area.{checkArea};
-ghost use Rattle.message.specs.Message.{outcomeOfBytes, ramAfterBytes, replyAfterBytes, outcomeOfValue, ramAfterValue, replyAfterValue};
-ghost use Rattle.boundary.specs.Boundary.{settingsFrom, rememberedFrom, rememberedInto, answerInto, valueFrom, valueInto, bytesInto, checkWord};
-use crate::plain::put_bytes;
-use crate::plain::put_outcome;
-use crate::plain::put_value;
-use crate::plain::remembered_from;
-use crate::plain::settings_from;
-use crate::plain::value_from;
+ghost use Rattle.label.specs.Label.{cellLabel, areaLabel, pairsInto};
+ghost use Rattle.message.specs.Heard.{heardBytes, heardValue};
+ghost use Rattle.boundary.specs.Over.{over};
+ghost use Rattle.boundary.specs.Setup.{settingsFrom};
+ghost use Rattle.boundary.specs.Answers.{checkWord};
+ghost use Rattle.boundary.specs.Values.{valueFrom, valueWords};
+ghost use Rattle.boundary.specs.Labels.{listingWords, countWords};
+ghost use Rattle.boundary.specs.Call.{lentOf, callNumber, lentAfter};
+use crate::answers::hand_back;
+use crate::labels::put_cells;
+use crate::labels::put_counts;
+use crate::labels::put_listing;
+use crate::over::put_bytes;
+use crate::setup::remembered_from;
+use crate::setup::settings_from;
+use crate::values::put_value;
+use crate::values::value_from;
 use area::area::check_area;
+use label::one::label_cell;
+use label::whole::label_area;
 use layout::reader::read;
 use layout::writer::write;
 use message::serve::message_from_bytes;
@@ -26,7 +37,8 @@ pub extern "C" fn solkverva_check_area(ram: &[u16], settings: &[u16]) -> u32
     65536 * (c.number as u32) + c.cell as u32
 }
 
-// One message from record bytes. The answer's words and the remembered state are written over what is lent.
+// One message from record bytes. The number is the result; the answer's words, the number first, and the remembered state are put
+// over what is lent.
 #[no_mangle]
 pub extern "C" fn solkverva_message(
     ram: &mut [u16],
@@ -35,16 +47,14 @@ pub extern "C" fn solkverva_message(
     remembered: &mut [u16],
     bytes: &[u8],
     answer: &mut [u16],
-)
-    ensures ram { λ r. ⌜ now (ram .exit) ≡ ramAfterBytes (now (ram .entry)) (now (reply .entry)) (settingsFrom (now (settings .entry))) (now (bytes .entry)) ⌝ }
-    ensures reply { λ r. ⌜ now (reply .exit) ≡ replyAfterBytes (now (ram .entry)) (now (reply .entry)) (settingsFrom (now (settings .entry))) (now (bytes .entry)) ⌝ }
-    ensures remembered { λ r. ⌜ now (remembered .exit) ≡ rememberedInto (now (remembered .entry)) (outcomeOfBytes (now (ram .entry)) (now (reply .entry)) (settingsFrom (now (settings .entry))) (rememberedFrom (now (remembered .entry))) (now (bytes .entry)) .remembered) ⌝ }
-    ensures answer { λ r. ⌜ now (answer .exit) ≡ answerInto (now (answer .entry)) (outcomeOfBytes (now (ram .entry)) (now (reply .entry)) (settingsFrom (now (settings .entry))) (rememberedFrom (now (remembered .entry))) (now (bytes .entry)) .answer) ⌝ }
+) -> u16
+    ensures number { λ r. ⌜ r ≡ callNumber (settingsFrom (now (settings .entry))) (heardBytes (now (bytes .entry))) (lentOf (now (ram .entry)) (now (reply .entry)) (now (remembered .entry)) (now (answer .entry))) ⌝ }
+    ensures lent { λ r. ⌜ lentOf (now (ram .exit)) (now (reply .exit)) (now (remembered .exit)) (now (answer .exit)) ≡ lentAfter (settingsFrom (now (settings .entry))) (heardBytes (now (bytes .entry))) (lentOf (now (ram .entry)) (now (reply .entry)) (now (remembered .entry)) (now (answer .entry))) ⌝ }
 {
     let s = settings_from(settings);
     let m = remembered_from(remembered);
     let o = message_from_bytes(ram, reply, s, m, bytes);
-    put_outcome(remembered, answer, o);
+    hand_back(remembered, answer, o)
 }
 
 // One message from a record value.
@@ -56,24 +66,22 @@ pub extern "C" fn solkverva_message_value(
     remembered: &mut [u16],
     value: &[u16],
     answer: &mut [u16],
-)
-    ensures ram { λ r. ⌜ now (ram .exit) ≡ ramAfterValue (now (ram .entry)) (now (reply .entry)) (settingsFrom (now (settings .entry))) (valueFrom (now (value .entry))) ⌝ }
-    ensures reply { λ r. ⌜ now (reply .exit) ≡ replyAfterValue (now (ram .entry)) (now (reply .entry)) (settingsFrom (now (settings .entry))) (valueFrom (now (value .entry))) ⌝ }
-    ensures remembered { λ r. ⌜ now (remembered .exit) ≡ rememberedInto (now (remembered .entry)) (outcomeOfValue (now (ram .entry)) (now (reply .entry)) (settingsFrom (now (settings .entry))) (rememberedFrom (now (remembered .entry))) (valueFrom (now (value .entry))) .remembered) ⌝ }
-    ensures answer { λ r. ⌜ now (answer .exit) ≡ answerInto (now (answer .entry)) (outcomeOfValue (now (ram .entry)) (now (reply .entry)) (settingsFrom (now (settings .entry))) (rememberedFrom (now (remembered .entry))) (valueFrom (now (value .entry))) .answer) ⌝ }
+) -> u16
+    ensures number { λ r. ⌜ r ≡ callNumber (settingsFrom (now (settings .entry))) (heardValue (valueFrom (now (value .entry)))) (lentOf (now (ram .entry)) (now (reply .entry)) (now (remembered .entry)) (now (answer .entry))) ⌝ }
+    ensures lent { λ r. ⌜ lentOf (now (ram .exit)) (now (reply .exit)) (now (remembered .exit)) (now (answer .exit)) ≡ lentAfter (settingsFrom (now (settings .entry))) (heardValue (valueFrom (now (value .entry)))) (lentOf (now (ram .entry)) (now (reply .entry)) (now (remembered .entry)) (now (answer .entry))) ⌝ }
 {
     let s = settings_from(settings);
     let m = remembered_from(remembered);
     let v = value_from(value);
     let o = message_from_value(ram, reply, s, m, v);
-    put_outcome(remembered, answer, o);
+    hand_back(remembered, answer, o)
 }
 
 // The record reader.
 #[no_mangle]
 pub extern "C" fn solkverva_read(bytes: &[u8], value: &mut [u16]) -> u16
     ensures number { λ r. ⌜ r ≡ readRecord (now (bytes .entry)) .number ⌝ }
-    ensures value { λ r. ⌜ now (value .exit) ≡ valueInto (now (value .entry)) (readRecord (now (bytes .entry)) .value) ⌝ }
+    ensures value { λ r. ⌜ now (value .exit) ≡ over (now (value .entry)) (valueWords (readRecord (now (bytes .entry)) .value)) ⌝ }
 {
     let r = read(bytes);
     let v = r.value;
@@ -85,10 +93,48 @@ pub extern "C" fn solkverva_read(bytes: &[u8], value: &mut [u16]) -> u16
 #[no_mangle]
 pub extern "C" fn solkverva_write(value: &[u16], bytes: &mut [u8]) -> u16
     ensures number { λ r. ⌜ r ≡ writeRecord (valueFrom (now (value .entry))) .number ⌝ }
-    ensures bytes { λ r. ⌜ now (bytes .exit) ≡ bytesInto (now (bytes .entry)) (writeRecord (valueFrom (now (value .entry))) .bytes) 80 ⌝ }
+    ensures bytes { λ r. ⌜ now (bytes .exit) ≡ over (now (bytes .entry)) (writeRecord (valueFrom (now (value .entry))) .bytes) ⌝ }
 {
     let w = write(value_from(value));
     let written = w.bytes;
     put_bytes(bytes, written);
     w.number
+}
+
+// The label of one cell: how many cells share words with it, and each with its mark.
+#[no_mangle]
+pub extern "C" fn solkverva_label_cell(
+    ram: &[u16],
+    settings: &[u16],
+    cell: u16,
+    listing: &mut [u16],
+) -> u16
+    ensures number { λ r. ⌜ r ≡ cellLabel (now (ram .entry)) (settingsFrom (now (settings .entry))) cell .number ⌝ }
+    ensures listing { λ r. ⌜ now (listing .exit) ≡ over (now (listing .entry)) (listingWords (cellLabel (now (ram .entry)) (settingsFrom (now (settings .entry))) cell)) ⌝ }
+{
+    let label = label_cell(ram, settings_from(settings), cell);
+    put_listing(listing, label);
+    label.number
+}
+
+// The label of the whole area: how many cells are unsound and how many pairs there are, the unsound cells, and the pairs as far as
+// there is room.
+#[no_mangle]
+pub extern "C" fn solkverva_label_area(
+    ram: &[u16],
+    settings: &[u16],
+    counts: &mut [u16],
+    unsound: &mut [u16],
+    pairs: &mut [u16],
+) -> u16
+    ensures number { λ r. ⌜ r ≡ areaLabel (now (ram .entry)) (settingsFrom (now (settings .entry))) .number ⌝ }
+    ensures counts { λ r. ⌜ now (counts .exit) ≡ over (now (counts .entry)) (countWords (areaLabel (now (ram .entry)) (settingsFrom (now (settings .entry))))) ⌝ }
+    ensures unsound { λ r. ⌜ now (unsound .exit) ≡ over (now (unsound .entry)) (areaLabel (now (ram .entry)) (settingsFrom (now (settings .entry))) .unsound) ⌝ }
+    ensures pairs { λ r. ⌜ now (pairs .exit) ≡ pairsInto (now (ram .entry)) (settingsFrom (now (settings .entry))) (now (pairs .entry)) ⌝ }
+{
+    let label = label_area(ram, settings_from(settings), pairs);
+    let cells = label.unsound;
+    put_counts(counts, label);
+    put_cells(unsound, cells);
+    label.number
 }

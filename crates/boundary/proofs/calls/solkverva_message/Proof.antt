@@ -1,5 +1,6 @@
 -- `solkverva_message` meets its contract: the message, with settings and state from plain words.
 use borrow.Author.Needs.{needs}
+use Rattle.boundary.proofs.Called.{called}
 use Rattle.boundary.proofs.calls.solkverva_message.Statement.{statement}
 use Rattle.boundary.proofs.calls.solkverva_message.Tie as tie
 
@@ -12,8 +13,8 @@ remembered-from-requires c κs = search needs
 message-from-bytes-requires : tie.Need-message-from-bytes-requires
 message-from-bytes-requires c κs = search needs
 
-put-outcome-requires : tie.Need-put-outcome-requires
-put-outcome-requires c κs = search needs
+hand-back-requires : tie.Need-hand-back-requires
+hand-back-requires c κs = search needs
 
 same-length : tie.Need-same-length
 same-length c = search needs
@@ -31,15 +32,11 @@ returns : tie.Need-returns
 returns c =
     let put = c .before .before .before .before in
     let served = put .before .before .before .before .before .before .before in
-    let said = served .message-from-bytes .ensures in
     let m = served .before .before .before .remembered-from .ensures in
-    let s = served .before .before .before .before .before .settings-from .ensures in (
-      rw (said .1 .0, s),
-      (
-        rw (said .1 .1, s),
-        (rw (put .put-outcome .ensures .0, said .0, s, m), rw (put .put-outcome .ensures .1, said .0, s, m)),
-      ),
-    )
+    let s = served .before .before .before .before .before .settings-from .ensures in
+    let said = rw (s, m) at (served .message-from-bytes .ensures) in
+    let back = put .hand-back .ensures in
+    called _ _ _ _ _ _ _ _ _ _ (said .0) (said .1) (back .0) (back .1 .0) (back .1 .1)
 
 pub solkverva-message-spec : {M : Type 1} → statement M
 solkverva-message-spec =
@@ -48,7 +45,7 @@ solkverva-message-spec =
     settings-from-requires
     remembered-from-requires
     message-from-bytes-requires
-    put-outcome-requires
+    hand-back-requires
     same-length
     same-length-2
     same-length-3

@@ -1,5 +1,6 @@
 -- `solkverva_message_value` meets its contract: the message, with everything from plain words.
 use borrow.Author.Needs.{needs}
+use Rattle.boundary.proofs.Called.{called}
 use Rattle.boundary.proofs.calls.solkverva_message_value.Statement.{statement}
 use Rattle.boundary.proofs.calls.solkverva_message_value.Tie as tie
 
@@ -15,8 +16,8 @@ value-from-requires c κs = search needs
 message-from-value-requires : tie.Need-message-from-value-requires
 message-from-value-requires c κs = search needs
 
-put-outcome-requires : tie.Need-put-outcome-requires
-put-outcome-requires c κs = search needs
+hand-back-requires : tie.Need-hand-back-requires
+hand-back-requires c κs = search needs
 
 same-length : tie.Need-same-length
 same-length c = search needs
@@ -34,16 +35,12 @@ returns : tie.Need-returns
 returns c =
     let put = c .before .before .before .before in
     let served = put .before .before .before .before .before .before .before in
-    let said = served .message-from-value .ensures in
     let v = served .before .before .before .value-from .ensures in
     let m = served .before .before .before .before .remembered-from .ensures in
-    let s = served .before .before .before .before .before .before .settings-from .ensures in (
-      rw (said .1 .0, s, v),
-      (
-        rw (said .1 .1, s, v),
-        (rw (put .put-outcome .ensures .0, said .0, s, m, v), rw (put .put-outcome .ensures .1, said .0, s, m, v)),
-      ),
-    )
+    let s = served .before .before .before .before .before .before .settings-from .ensures in
+    let said = rw (s, m, v) at (served .message-from-value .ensures) in
+    let back = put .hand-back .ensures in
+    called _ _ _ _ _ _ _ _ _ _ (said .0) (said .1) (back .0) (back .1 .0) (back .1 .1)
 
 pub solkverva-message-value-spec : {M : Type 1} → statement M
 solkverva-message-value-spec =
@@ -53,7 +50,7 @@ solkverva-message-value-spec =
     remembered-from-requires
     value-from-requires
     message-from-value-requires
-    put-outcome-requires
+    hand-back-requires
     same-length
     same-length-2
     same-length-3

@@ -1,0 +1,176 @@
+// Who put a word where it is, for callers: tables for every address that go on with each part of a trace, what they say of an
+// address, and the question about one address.
+ghost use mathlib.Core.Path.{_≡_};
+ghost use mathlib.Core.List.{[], _∷_};
+ghost use lib.ListN.{length};
+ghost use Rattle.who.specs.Tests.{replayRefusal};
+ghost use Rattle.who.specs.Replay.{heardIn, asked};
+ghost use Rattle.who.specs.Table.{entryAt};
+ghost use Rattle.boundary.specs.Over.{over};
+ghost use Rattle.boundary.specs.Setup.{settingsFrom, rememberedWords};
+ghost use Rattle.boundary.specs.Origins.{numberOf, recordOf, kindOf, cellOf, placeOf, partWords, fillingFrom, lentTablesOf, tablesAfter};
+use crate::setup::put_remembered;
+use crate::setup::remembered_from;
+use crate::setup::settings_from;
+use memory::ram::put;
+use who::origin::Who;
+use who::question::ask;
+use who::table::Filling;
+use who::table::entry_at;
+use who::table::fill;
+use who::table::number_at;
+use who::table::put_number;
+use who::values::part_kind;
+use who::values::part_place;
+
+fn number_of(w: Who) -> u16
+    ensures { λ r. ⌜ r ≡ numberOf w ⌝ }
+{
+    match w {
+        Who::Refused(number) => number,
+        Who::AsInImage => 0,
+        Who::Written(_) => 0,
+    }
+}
+
+fn record_of(w: Who) -> u64
+    ensures { λ r. ⌜ r ≡ recordOf w ⌝ }
+{
+    match w {
+        Who::Refused(_) => 0,
+        Who::AsInImage => 0,
+        Who::Written(origin) => origin.number,
+    }
+}
+
+fn kind_of(w: Who) -> u16
+    ensures { λ r. ⌜ r ≡ kindOf w ⌝ }
+{
+    match w {
+        Who::Refused(_) => 0,
+        Who::AsInImage => 0,
+        Who::Written(origin) => {
+            let part = origin.part;
+            part_kind(part)
+        }
+    }
+}
+
+fn cell_of(w: Who) -> u16
+    ensures { λ r. ⌜ r ≡ cellOf w ⌝ }
+{
+    match w {
+        Who::Refused(_) => 0,
+        Who::AsInImage => 0,
+        Who::Written(origin) => origin.cell,
+    }
+}
+
+fn place_of(w: Who) -> u16
+    ensures { λ r. ⌜ r ≡ placeOf w ⌝ }
+{
+    match w {
+        Who::Refused(_) => 0,
+        Who::AsInImage => 0,
+        Who::Written(origin) => {
+            let part = origin.part;
+            part_place(part)
+        }
+    }
+}
+
+fn put_part(xs: &mut [u16], w: Who)
+    ensures { λ r. ⌜ now (xs .exit) ≡ over (now (xs .entry)) (partWords w) ⌝ }
+{
+    put(xs, 2, place_of(w));
+    put(xs, 1, cell_of(w));
+    put(xs, 0, kind_of(w));
+}
+
+// An answer put over what is lent; the number that refuses is the result.
+fn tell(last: &mut [u64], part: &mut [u16], w: Who) -> u16
+    ensures number { λ r. ⌜ r ≡ numberOf w ⌝ }
+    ensures last { λ r. ⌜ now (last .exit) ≡ over (now (last .entry)) (recordOf w ∷ []) ⌝ }
+    ensures part { λ r. ⌜ now (part .exit) ≡ over (now (part .entry)) (partWords w) ⌝ }
+{
+    put_number(last, 0, record_of(w));
+    put_part(part, w);
+    number_of(w)
+}
+
+fn filling_from(remembered: &[u16], records: &[u64]) -> Filling
+    ensures { λ r. ⌜ r ≡ fillingFrom (now (remembered .entry)) (now (records .entry)) ⌝ }
+{
+    let m = remembered_from(remembered);
+    Filling {
+        remembered: m,
+        number: number_at(records, 0),
+    }
+}
+
+fn put_filling(remembered: &mut [u16], records: &mut [u64], at: Filling)
+    ensures remembered { λ r. ⌜ now (remembered .exit) ≡ over (now (remembered .entry)) (rememberedWords (at .remembered)) ⌝ }
+    ensures records { λ r. ⌜ now (records .exit) ≡ over (now (records .entry)) (at .number ∷ []) ⌝ }
+{
+    let m = at.remembered;
+    put_remembered(remembered, m);
+    put_number(records, 0, at.number);
+}
+
+// A part of a trace, for every address at once. RAM is replayed where it is lent, and the tables go on from what they hold.
+#[no_mangle]
+pub extern "C" fn solkverva_who_fill(
+    ram: &mut [u16],
+    numbers: &mut [u64],
+    marks: &mut [u16],
+    settings: &[u16],
+    remembered: &mut [u16],
+    records: &mut [u64],
+    trace: &[u8],
+) -> u16
+    ensures number { λ r. ⌜ r ≡ replayRefusal (length (now (ram .entry))) (settingsFrom (now (settings .entry))) ⌝ }
+    ensures lent { λ r. ⌜ lentTablesOf (now (ram .exit)) (now (numbers .exit)) (now (marks .exit)) (now (remembered .exit)) (now (records .exit)) ≡ tablesAfter (settingsFrom (now (settings .entry))) (heardIn (now (trace .entry))) (lentTablesOf (now (ram .entry)) (now (numbers .entry)) (now (marks .entry)) (now (remembered .entry)) (now (records .entry))) ⌝ }
+{
+    let s = settings_from(settings);
+    let at = filling_from(remembered, records);
+    let filled = fill(ram, numbers, marks, s, at, trace);
+    let end = filled.at;
+    put_filling(remembered, records, end);
+    filled.number
+}
+
+// What filled tables say of an address.
+#[no_mangle]
+pub extern "C" fn solkverva_who_entry(
+    numbers: &[u64],
+    marks: &[u16],
+    address: u16,
+    last: &mut [u64],
+    part: &mut [u16],
+) -> u16
+    ensures number { λ r. ⌜ r ≡ numberOf (entryAt (now (numbers .entry)) (now (marks .entry)) address) ⌝ }
+    ensures last { λ r. ⌜ now (last .exit) ≡ over (now (last .entry)) (recordOf (entryAt (now (numbers .entry)) (now (marks .entry)) address) ∷ []) ⌝ }
+    ensures part { λ r. ⌜ now (part .exit) ≡ over (now (part .entry)) (partWords (entryAt (now (numbers .entry)) (now (marks .entry)) address)) ⌝ }
+{
+    let w = entry_at(numbers, marks, address);
+    tell(last, part, w)
+}
+
+// The question about one address, of a whole trace. RAM holds the image, and afterwards what the trace leaves.
+#[no_mangle]
+pub extern "C" fn solkverva_who(
+    ram: &mut [u16],
+    settings: &[u16],
+    address: u16,
+    trace: &[u8],
+    last: &mut [u64],
+    part: &mut [u16],
+) -> u16
+    ensures number { λ r. ⌜ r ≡ numberOf (asked (settingsFrom (now (settings .entry))) address (heardIn (now (trace .entry))) (now (ram .entry)) .at .who) ⌝ }
+    ensures ram { λ r. ⌜ now (ram .exit) ≡ asked (settingsFrom (now (settings .entry))) address (heardIn (now (trace .entry))) (now (ram .entry)) .ram ⌝ }
+    ensures last { λ r. ⌜ now (last .exit) ≡ over (now (last .entry)) (recordOf (asked (settingsFrom (now (settings .entry))) address (heardIn (now (trace .entry))) (now (ram .entry)) .at .who) ∷ []) ⌝ }
+    ensures part { λ r. ⌜ now (part .exit) ≡ over (now (part .entry)) (partWords (asked (settingsFrom (now (settings .entry))) address (heardIn (now (trace .entry))) (now (ram .entry)) .at .who)) ⌝ }
+{
+    let w = ask(ram, settings_from(settings), address, trace);
+    tell(last, part, w)
+}

@@ -1,0 +1,239 @@
+-- What each entry point answers, from what its contract says of it.
+use Prim.Native.Nat.{ℕ, _+_, _-_, _/_, _%_}
+use native.Mathlib.Omega.{arith}
+use mathlib.Core.Path.{_≡_, refl, sym, ap, _∙_}
+use mathlib.Core.Logic.{⊎-elim}
+use mathlib.Core.Bool.{true, not, cond}
+use mathlib.Core.List.{List, [], _∷_}
+use lib.ListN.{take, drop, replicate}
+use lib.Dec.{eqb}
+use borrow.Author.Tests.{eq-eqb, ne-eqb}
+use Rattle.words.specs.Number.{recordLayout}
+use Rattle.words.specs.Refusal.{Test, _when_, firstOf}
+use Rattle.words.specs.declared.settings.Settings.{Settings}
+use Rattle.words.proofs.Basics.{eq-or-ne}
+use Rattle.words.proofs.Refusals.{numbered, first-zero, first-number}
+use Rattle.memory.specs.State.{State}
+use Rattle.records.specs.declared.value.Record.{Record}
+use Rattle.records.specs.Value.{keepsLayout}
+use Rattle.layout.specs.declared.reader.Reading.{Reading}
+use Rattle.layout.specs.declared.writer.Written.{Written}
+use Rattle.layout.specs.Layout.{valueIn, readerRefusal, readRecord, notRead}
+use Rattle.layout.specs.Writing.{zeroBytes, bytesOf, writerRefusal, writeRecord}
+use Rattle.layout.proofs.reader
+use Rattle.layout.proofs.writer
+use Rattle.area.specs.declared.area.Checked.{Checked}
+use Rattle.label.specs.declared.one.CellLabel.{CellLabel}
+use Rattle.label.specs.declared.whole.AreaLabel.{AreaLabel}
+use Rattle.label.specs.Label.{cellTests, cellRefusal, cellAnswer, cellLabel, areaAnswer, areaPairs, areaUnsound, areaLabel, pairsInto}
+use Rattle.area.specs.Area.{groundTests, groundRefusal, areaTests, areaRefusal, checkArea}
+use Rattle.area.proofs.area
+use Rattle.area.proofs.Whole.{area-unsound, area-no-cell}
+use Rattle.message.specs.Heard.{Heard, heardBytes}
+use Rattle.message.specs.Tests.{testsFor, recordTests, refusalFor}
+use Rattle.message.specs.Answer.{refusedWith}
+use Rattle.message.specs.Message.{answerOf, step}
+use Rattle.message.proofs.serve
+use Rattle.message.proofs.Refusals.{number-told, refused-answer, refused-state}
+use Rattle.demands.specs.Calls.{Message, Exported}
+use Rattle.view.specs.declared.view.Taken.{Taken}
+use Rattle.view.specs.View.{noneAt, takenAt}
+use Rattle.view.proofs.Views.{taken-none, taken-some}
+use Rattle.message.proofs.FromBytes.{record-number}
+use Rattle.boundary.specs.Over.{over}
+use Rattle.boundary.specs.Answers.{checkWord}
+use Rattle.boundary.specs.Values.{valueWords}
+use Rattle.boundary.specs.Call.{Lent, lentOf, stateIn, callNumber, lentAfter}
+use Rattle.boundary.proofs.Refused.{message-refused, read-refused, write-refused}
+use Rattle.boundary.proofs.Halves.{upper-half, lower-half}
+use Rattle.demands.specs.First.{writerTests, ExportedAnswered, TakeAnswered, rising, Answered, MessageAnswered, CheckAnswered, ReadAnswered, WriteAnswered}
+
+-- where the number is that of the first test that holds, what is left to show is what a refusal gives back and leaves
+answered :
+    (tests : List Test) {Back Lent : Type 0} (number : ℕ) (back : Back) (refusal : ℕ → Back) (before after : Lent) →
+    rising tests ≡ true →
+    numbered tests ≡ true →
+    number ≡ firstOf tests →
+    ((number ≡ 0 → ⊥) → back ≡ refusal number) →
+    ((number ≡ 0 → ⊥) → after ≡ before) →
+    Answered tests number back refusal before after
+answered tests number back refusal before after order some e zero kept =
+    record {
+      order = order;
+      done = rw e (first-zero tests some);
+      refused = λ n m. rw e (first-number tests n m);
+      zero = zero;
+      kept = kept;
+    }
+
+-- what the definitions say of one message
+pub step-answered :
+    (s : Settings) (h : Heard) (x : State) →
+    Answered (testsFor s h x) (answerOf s h x .number) (answerOf s h x) refusedWith x (step s h x)
+unfolding refusalFor
+step-answered s h x =
+    let told = number-told s h x in
+    answered (testsFor s h x) _ _ refusedWith x (step s h x) refl refl told
+    (λ m. refused-answer s h x (λ z. m (told ∙ z)) ∙ ap refusedWith (sym told))
+    (λ m. refused-state s h x (λ z. m (told ∙ z)))
+
+pub message-answered :
+    (m : Message) →
+    m .answer ≡ answerOf (m .settings) (m .heard) (m .before) →
+    m .after ≡ step (m .settings) (m .heard) (m .before) →
+    MessageAnswered m
+message-answered m e f = rw (e, f) (step-answered (m .settings) (m .heard) (m .before))
+
+pub check-answered : (ram : List ℕ) (s : Settings) (back : Checked) → back ≡ checkArea ram s → CheckAnswered ram s back
+unfolding checkArea areaRefusal
+check-answered ram s back e =
+    record {
+      answered =
+          answered (areaTests ram s) _ back _ ram ram refl refl (ap (λ (c : Checked). c .number) e) (λ m. refl)
+          (λ m. refl);
+      named = rw e (area-unsound ram s);
+      unnamed = rw e (area-no-cell ram s);
+    }
+
+-- what is given back by the number of the first test that holds, where nothing is lent to be changed
+by-number :
+    (tests : List Test) {Back Lent : Type 0} (numberOf : Back → ℕ) (back done : Back) (refusal : ℕ → Back)
+    (lent : Lent) →
+    rising tests ≡ true →
+    numbered tests ≡ true →
+    numberOf done ≡ 0 →
+    ((n : ℕ) → numberOf (refusal n) ≡ n) →
+    back ≡ cond (eqb (firstOf tests) 0) done (refusal (firstOf tests)) →
+    Answered tests (numberOf back) back refusal lent lent
+by-number tests numberOf back done refusal lent order some none tells e =
+    let number = firstOf tests in
+    ⊎-elim
+    (λ (z : number ≡ 0).
+    let same : back ≡ done = e ∙ rw (eq-eqb number 0 z) in
+    let told : numberOf back ≡ 0 = ap numberOf same ∙ none in
+    answered tests (numberOf back) back refusal lent lent order some (told ∙ sym z) (λ m. absurd (m told)) (λ m. refl))
+    (λ (m : number ≡ 0 → ⊥).
+    let same : back ≡ refusal number = e ∙ rw (ne-eqb number 0 m) in
+    let told : numberOf back ≡ number = ap numberOf same ∙ tells number in
+    answered tests (numberOf back) back refusal lent lent order some told (λ k. same ∙ ap refusal (sym told))
+    (λ k. refl))
+    (eq-or-ne number 0)
+
+pub read-answered : (bytes : List ℕ) (back : Reading) → back ≡ readRecord bytes → ReadAnswered bytes back
+unfolding readRecord readerRefusal notRead
+read-answered bytes back e =
+    by-number (recordTests (heardBytes bytes)) (λ r. r .number) back (record { number = 0; value = valueIn bytes })
+    notRead bytes
+    refl refl refl (λ n. refl) e
+
+pub write-answered : (v : Record) (back : Written) → back ≡ writeRecord v → WriteAnswered v back
+unfolding writeRecord writerRefusal
+write-answered v back e =
+    by-number (writerTests v) (λ w. w .number) back (record { number = 0; bytes = bytesOf v })
+    (λ n. record { number = n; bytes = zeroBytes }) v
+    refl refl refl (λ n. refl) e
+
+-- ---- the label
+
+pub cell-labelled :
+    (ram : List ℕ) (s : Settings) (cell : ℕ) (back : CellLabel) →
+    back ≡ cellLabel ram s cell →
+    Answered (cellTests ram s cell) (back .number) back (λ n. cellAnswer n []) ram ram
+unfolding cellLabel cellRefusal cellAnswer
+cell-labelled ram s cell back e =
+    let told : back .number ≡ cellRefusal ram s cell = ap (λ (l : CellLabel). l .number) e in
+    answered (cellTests ram s cell) (back .number) back _ ram ram refl refl told
+    (λ m.
+    let none : cellLabel ram s cell ≡ cellAnswer (cellRefusal ram s cell) [] =
+    rw (ne-eqb (cellRefusal ram s cell) 0 (λ z. m (told ∙ z))) in
+    e ∙ none ∙ ap (λ (n : ℕ). cellAnswer n []) (sym told))
+    (λ m. refl)
+
+pub area-labelled :
+    (ram : List ℕ) (s : Settings) (pairs after : List ℕ) (back : AreaLabel) →
+    back ≡ areaLabel ram s →
+    after ≡ pairsInto ram s pairs →
+    Answered (groundTests ram s) (back .number) back (λ n. areaAnswer n [] 0) pairs after
+unfolding areaLabel areaUnsound areaPairs pairsInto groundRefusal areaAnswer
+area-labelled ram s pairs after back e f =
+    let told : back .number ≡ groundRefusal ram s = ap (λ (l : AreaLabel). l .number) e in
+    answered (groundTests ram s) (back .number) back _ pairs after refl refl told
+    (λ m.
+    let none : areaLabel ram s ≡ areaAnswer (groundRefusal ram s) [] 0 =
+    rw (ne-eqb (groundRefusal ram s) 0 (λ z. m (told ∙ z))) in
+    e ∙ none ∙ ap (λ (n : ℕ). areaAnswer n [] 0) (sym told))
+    (λ m. f ∙ rw (ne-eqb (groundRefusal ram s) 0 (λ z. m (told ∙ z))))
+
+-- ---- the view
+
+pub take-answered : (trace : List ℕ) (at : ℕ) (back : Taken) → back ≡ takenAt trace at → TakeAnswered trace at back
+unfolding noneAt
+take-answered trace at back e =
+    record {
+      some =
+          λ h.
+          let same = e ∙ taken-some trace at h in
+          let long : at + 80 - at ≡ 80 = omega arith in (
+            ap (λ (t : Taken). t .found) same,
+            (
+              ap (λ (t : Taken). t .at) same,
+              read-answered (take 80 (drop at trace)) (back .reading)
+                  (rw (← long) (ap (λ (t : Taken). t .reading) same)),
+            ),
+          );
+      none = λ h. e ∙ taken-none trace at h;
+    }
+
+-- ---- for callers in C and Rust
+
+pub exported-answered :
+    (e : Exported) →
+    e .number ≡ callNumber (e .settings) (e .heard) (e .before) →
+    e .after ≡ lentAfter (e .settings) (e .heard) (e .before) →
+    ExportedAnswered e
+unfolding callNumber refusalFor
+exported-answered e n f =
+    let refused : Lent =
+    lentOf (e .before .ram) (e .before .reply) (e .before .remembered)
+    (over (e .before .answer) (e .number ∷ replicate 8 0)) in
+    let left : (e .number ≡ 0 → ⊥) → e .after ≡ refused =
+    λ m. rw n (f ∙ message-refused (e .settings) (e .heard) (e .before) (λ z. m (n ∙ z))) in
+    answered (testsFor (e .settings) (e .heard) (stateIn (e .before))) (e .number) (e .after .answer) _ _ _ refl refl n
+    (λ m. ap (λ (l : Lent). l .answer) (left m))
+    (λ m. ap (λ (l : Lent). l .ram ∷ l .reply ∷ l .remembered ∷ []) (left m))
+
+pub exported-check :
+    (ram : List ℕ) (s : Settings) (back : ℕ) → back ≡ checkWord (checkArea ram s) →
+    CheckAnswered ram s (record { number = back / 65536; cell = back % 65536 })
+exported-check ram s back e =
+    check-answered ram s _
+    (λ i. record {
+      number = (ap (λ (k : ℕ). k / 65536) e ∙ upper-half ram s) i;
+      cell = (ap (λ (k : ℕ). k % 65536) e ∙ lower-half ram s) i;
+    })
+
+pub exported-read-answered :
+    (bytes value after : List ℕ) (back : ℕ) →
+    back ≡ readRecord bytes .number →
+    after ≡ over value (valueWords (readRecord bytes .value)) →
+    Answered (recordTests (heardBytes bytes)) back after (λ n. over value (replicate 36 0)) bytes bytes
+exported-read-answered bytes value after back e f =
+    answered (recordTests (heardBytes bytes)) back after _ bytes bytes refl refl (e ∙ sym (record-number bytes))
+    (λ m. f ∙ read-refused bytes value (λ z. m (e ∙ z)))
+    (λ m. refl)
+
+writer-number : (v : Record) → writeRecord v .number ≡ firstOf (writerTests v)
+unfolding writeRecord writerRefusal
+writer-number v =
+    let number = firstOf (writerTests v) in
+    ⊎-elim (λ z. rw (eq-eqb number 0 z) (sym z)) (λ m. rw (ne-eqb number 0 m)) (eq-or-ne number 0)
+
+pub exported-write-answered :
+    (value bytes after : List ℕ) (v : Record) (back : ℕ) →
+    back ≡ writeRecord v .number →
+    after ≡ over bytes (writeRecord v .bytes) →
+    Answered (writerTests v) back after (λ n. over bytes (replicate 80 0)) value value
+exported-write-answered value bytes after v back e f =
+    answered (writerTests v) back after _ value value refl refl (e ∙ writer-number v)
+    (λ m. f ∙ write-refused v bytes (λ z. m (e ∙ z)))
+    (λ m. refl)

@@ -1,0 +1,43 @@
+-- Reader and writer undo each other, told of what each gave.
+use Prim.Native.Nat.{ℕ}
+use mathlib.Core.Path.{_≡_, ap, _∙_}
+use mathlib.Core.List.{List}
+use Rattle.records.specs.declared.value.Record.{Record}
+use Rattle.layout.specs.declared.reader.Reading.{Reading}
+use Rattle.layout.specs.declared.writer.Written.{Written}
+use Rattle.layout.specs.Layout.{valueIn, readRecord}
+use Rattle.layout.specs.Writing.{bytesOf, writeRecord}
+use Rattle.layout.proofs.Numbers.{Bytes}
+use Rattle.layout.proofs.Cases.{write-good}
+use Rattle.layout.proofs.Inverse.{Typed, read-after-write, write-after-read, reader-takes, writer-takes}
+
+pub gives-value :
+    (bytes : List ℕ) (r : Reading) → r ≡ readRecord bytes → r .number ≡ 0 → r .value ≡ valueIn bytes
+gives-value bytes r e z = ap (λ (x : Reading). x .value) (e ∙ reader-takes bytes (rw (← e) z) .gives)
+
+pub gives-bytes : (v : Record) (w : Written) → w ≡ writeRecord v → w .number ≡ 0 → w .bytes ≡ bytesOf v
+gives-bytes v w e z = ap (λ (x : Written). x .bytes) (e ∙ write-good v (writer-takes v (rw (← e) z)))
+
+pub back-read :
+    (v : Record) (bytes : List ℕ) (w : Written) (r : Reading) →
+    w ≡ writeRecord v →
+    r ≡ readRecord bytes →
+    Typed v →
+    w .number ≡ 0 →
+    bytes ≡ w .bytes →
+    r ≡ record { number = 0; value = v }
+back-read v bytes w r e f typed z same =
+    f ∙ rw (same, gives-bytes v w e z) (read-after-write v typed (writer-takes v (rw (← e) z)))
+
+pub back-written :
+    (bytes : List ℕ) (v : Record) (r : Reading) (w : Written) →
+    r ≡ readRecord bytes →
+    w ≡ writeRecord v →
+    Bytes bytes →
+    r .number ≡ 0 →
+    v ≡ r .value →
+    w ≡ record { number = 0; bytes = bytes }
+back-written bytes v r w e f are z same =
+    let t = reader-takes bytes (rw (← e) z) in
+    let given : v ≡ valueIn bytes = same ∙ gives-value bytes r e z in
+    f ∙ rw given (write-after-read bytes (t .long) are (t .kept))

@@ -1,0 +1,117 @@
+-- Demand 1, proved.
+use denote.Ref.{now}
+use Rattle.layout.proofs.reader
+use Rattle.layout.proofs.writer
+use Rattle.area.proofs.area
+use Rattle.label.proofs.one
+use Rattle.label.proofs.whole
+use Rattle.message.proofs.serve
+use Rattle.trace.proofs.walk
+use Rattle.view.proofs.view
+use Rattle.boundary.specs.Setup.{settingsFrom}
+use Rattle.boundary.specs.Values.{valueFrom}
+use Rattle.boundary.proofs.calls
+use Rattle.demands.specs.Calls.{fromBytes, fromValue, walked, exportedBytes, exportedValue}
+use Rattle.demands.specs.First.{MessageAnswered, Demand}
+use Rattle.demands.proofs.Answered.{step-answered, message-answered, check-answered, read-answered, write-answered, cell-labelled, area-labelled, take-answered, exported-answered, exported-check, exported-read-answered, exported-write-answered}
+use Rattle.demands.proofs.Walks.{walks}
+
+pub first : Demand
+first =
+    record {
+      message-from-bytes =
+          record {
+            any = λ κs given. tt;
+            ends = serve.message_from_bytes.Met.met;
+            says = λ c. message-answered (fromBytes c) (c .allowed .0) (c .allowed .1);
+          };
+      message-from-value =
+          record {
+            any = λ κs given. tt;
+            ends = serve.message_from_value.Met.met;
+            says = λ c. message-answered (fromValue c) (c .allowed .0) (c .allowed .1);
+          };
+      check-area =
+          record {
+            any = λ κs given. tt;
+            ends = area.check_area.Met.met;
+            says = λ c. check-answered (now (c .given .0)) (c .given .1 .0) (c .back) (c .allowed);
+          };
+      read =
+          record {
+            any = λ κs given. tt;
+            ends = reader.read.Met.met;
+            says = λ c. read-answered (now (c .given .0)) (c .back) (c .allowed);
+          };
+      write =
+          record {
+            any = λ κs given. tt;
+            ends = writer.write.Met.met;
+            says = λ c. write-answered (c .given .0) (c .back) (c .allowed);
+          };
+      label-cell =
+          record {
+            any = λ κs given. tt;
+            ends = one.label_cell.Met.met;
+            says = λ c. cell-labelled (now (c .given .0)) (c .given .1 .0) (c .given .1 .1 .0) (c .back) (c .allowed);
+          };
+      label-area =
+          record {
+            any = λ κs given. tt;
+            ends = whole.label_area.Met.met;
+            says =
+                λ c.
+                area-labelled (now (c .given .0)) (c .given .1 .0) (now (c .given .1 .1 .0)) (c .left .1 .1 .0) (c .back)
+                (c .allowed .0)
+                (c .allowed .1);
+          };
+      walk =
+          record {
+            any = λ κs given. tt;
+            ends = walk.walk.Met.met;
+            says = λ c. walks MessageAnswered c (step-answered (walked c .settings));
+          };
+      view =
+          record {
+            any = λ κs given. tt;
+            ends = view.take_at.Met.met;
+            says = λ c. take-answered (now (c .given .0)) (c .given .1 .0) (c .back) (c .allowed);
+          };
+      exported-message =
+          record {
+            any = λ κs given. tt;
+            ends = calls.solkverva_message.Met.met;
+            says = λ c. exported-answered (exportedBytes c) (c .allowed .0) (c .allowed .1);
+          };
+      exported-message-value =
+          record {
+            any = λ κs given. tt;
+            ends = calls.solkverva_message_value.Met.met;
+            says = λ c. exported-answered (exportedValue c) (c .allowed .0) (c .allowed .1);
+          };
+      exported-check-area =
+          record {
+            any = λ κs given. tt;
+            ends = calls.solkverva_check_area.Met.met;
+            says = λ c. exported-check (now (c .given .0)) (settingsFrom (now (c .given .1 .0))) (c .back) (c .allowed);
+          };
+      exported-read =
+          record {
+            any = λ κs given. tt;
+            ends = calls.solkverva_read.Met.met;
+            says =
+                λ c.
+                exported-read-answered (now (c .given .0)) (now (c .given .1 .0)) (c .left .1 .0) (c .back)
+                (c .allowed .0)
+                (c .allowed .1);
+          };
+      exported-write =
+          record {
+            any = λ κs given. tt;
+            ends = calls.solkverva_write.Met.met;
+            says =
+                λ c.
+                exported-write-answered (now (c .given .0)) (now (c .given .1 .0)) (c .left .1 .0)
+                (valueFrom (now (c .given .0))) (c .back) (c .allowed .0) (c .allowed .1);
+          };
+    }

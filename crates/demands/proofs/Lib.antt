@@ -1,0 +1,10 @@
+pub mod Answered
+pub mod Sent
+pub mod Worked
+pub mod Back
+pub mod Walks
+pub mod Seen
+pub mod First
+pub mod Second
+pub mod Third
+pub mod Empty

@@ -1,0 +1,53 @@
+-- Demand 2, proved.
+use mathlib.Core.Path.{_≡_, refl, sym, _∙_}
+use denote.Ref.{now}
+use Rattle.message.proofs.Edges.{edges}
+use Rattle.message.proofs.Refusals.{number-told}
+use Rattle.boundary.specs.Call.{stateIn, callNumber, lentAfter}
+use Rattle.demands.specs.Calls.{fromBytes, fromValue, walked, Exported, exportedBytes, exportedValue}
+use Rattle.demands.specs.Second.{MessageWorked, ExportedWorked, Demand}
+use Rattle.demands.proofs.Worked.{stepped, message-worked}
+use Rattle.demands.proofs.Walks.{walks}
+use Rattle.demands.proofs.Back.{gives-value, gives-bytes, back-read, back-written}
+
+exported-worked :
+    (e : Exported) →
+    e .number ≡ callNumber (e .settings) (e .heard) (e .before) →
+    e .after ≡ lentAfter (e .settings) (e .heard) (e .before) →
+    ExportedWorked e
+unfolding callNumber lentAfter
+exported-worked e n f =
+    let m = stepped (e .settings) (e .heard) (stateIn (e .before)) in
+    record {
+      message = m;
+      settings = refl;
+      heard = refl;
+      before = refl;
+      worked = message-worked m refl refl;
+      number = n ∙ sym (number-told (e .settings) (e .heard) (stateIn (e .before)));
+      after = f;
+    }
+
+pub second : Demand
+second =
+    record {
+      message-from-bytes = λ c. message-worked (fromBytes c) (c .allowed .0) (c .allowed .1);
+      message-from-value = λ c. message-worked (fromValue c) (c .allowed .0) (c .allowed .1);
+      walk = λ c. walks MessageWorked c (λ h x. message-worked (stepped (walked c .settings) h x) refl refl);
+      exported-message = λ c. exported-worked (exportedBytes c) (c .allowed .0) (c .allowed .1);
+      exported-message-value = λ c. exported-worked (exportedValue c) (c .allowed .0) (c .allowed .1);
+      edges = edges;
+      read = λ r z. gives-value (now (r .given .0)) (r .back) (r .allowed) z;
+      write = λ w z. gives-bytes (w .given .0) (w .back) (w .allowed) z;
+      read-written = λ w r. back-read (w .given .0) (now (r .given .0)) (w .back) (r .back) (w .allowed) (r .allowed);
+      written-read =
+          λ r w. back-written (now (r .given .0)) (w .given .0) (r .back) (w .back) (r .allowed) (w .allowed);
+      read-any = λ c. c .allowed;
+      write-any = λ c. c .allowed;
+      exported-read =
+          λ c r e.
+          (c .allowed .0 ∙ rw (e, ← (r .allowed)), c .allowed .1 ∙ rw (e, ← (r .allowed)));
+      exported-write =
+          λ c w e.
+          (c .allowed .0 ∙ rw (e, ← (w .allowed)), c .allowed .1 ∙ rw (e, ← (w .allowed)));
+    }

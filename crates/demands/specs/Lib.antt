@@ -1,0 +1,6 @@
+pub mod Entry
+pub mod Calls
+pub mod Walks
+pub mod First
+pub mod Second
+pub mod Third
