@@ -4,12 +4,13 @@
 # Proofs and trials of wrong programs run four at a time, so that no processor waits for the slowest of a pair.
 export RT_JOBS ?= 4
 
-# The trace program on two samples, with the columns explained.
+# Samples on the proved terminal, with the columns explained, and a page.
 demo:
 	@scripts/demo
 
 # Every test. The last step is the gate itself, so its last line, 'N passed, 0 failed', is the last line printed.
 test:
+	@scripts/quotations
 	@rt fmt --check
 	@scripts/compare-all
 	@rt ci

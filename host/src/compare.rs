@@ -4,6 +4,8 @@ pub mod case;
 mod classes;
 pub mod coverage;
 pub mod episode;
+pub mod labels;
+pub mod origins;
 pub mod replay;
 pub mod run;
 pub mod shrink;

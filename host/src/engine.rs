@@ -5,11 +5,16 @@
 //! `include/solkverva.h` names them.
 
 pub mod boundary;
+pub mod who;
+
+pub use who::Walk;
 
 use crate::terminal::boundary::{
-    answer_of, record_of, remembered_of, remembered_words, settings_words, value_words,
-    ANSWER_WORDS, VALUE_WORDS,
+    answer_of, area_label_of, record_of, remembered_of, remembered_words, settings_words,
+    sharers_of, value_words, ANSWER_WORDS, COUNTS_WORDS, LISTING_WORDS, PAIRS_WORDS, UNSOUND_WORDS,
+    VALUE_WORDS,
 };
+use crate::terminal::label::{AreaLabel, Sharer};
 use crate::terminal::records::RECORD_BYTES;
 use crate::terminal::{Answer, MessageRef, Record, Remembered, Settings};
 
@@ -30,16 +35,38 @@ pub fn carry_out(
     let mut memory = remembered_words(remembered);
     let mut answer = [0; ANSWER_WORDS];
     let settings = settings_words(settings);
-    match message {
+    let number = match message {
         MessageRef::Bytes(bytes) => {
-            boundary::message(ram, reply, &settings, &mut memory, bytes, &mut answer);
+            boundary::message(ram, reply, &settings, &mut memory, bytes, &mut answer)
         }
         MessageRef::Value(record) => {
             let value = value_words(record);
-            boundary::message_value(ram, reply, &settings, &mut memory, &value, &mut answer);
+            boundary::message_value(ram, reply, &settings, &mut memory, &value, &mut answer)
         }
-    }
+    };
+    assert_eq!(number, answer[0], "the number is returned and answered");
     (answer_of(&answer), remembered_of(&memory))
+}
+
+/// Every other cell whose window meets this cell's window, in rising number.
+pub fn label_cell(ram: &[u16], settings: &Settings, cell: u16) -> Result<Vec<Sharer>, u16> {
+    let mut listing = [0; LISTING_WORDS];
+    match boundary::label_cell(ram, &settings_words(settings), cell, &mut listing) {
+        0 => Ok(sharers_of(&listing)),
+        number => Err(number),
+    }
+}
+
+/// The unsound cells, and each pair of others whose windows meet.
+pub fn label_area(ram: &[u16], settings: &Settings) -> Result<AreaLabel, u16> {
+    let mut counts = [0; COUNTS_WORDS];
+    let mut unsound = [0; UNSOUND_WORDS];
+    let mut pairs = [0; PAIRS_WORDS];
+    let words = settings_words(settings);
+    match boundary::label_area(ram, &words, &mut counts, &mut unsound, &mut pairs) {
+        0 => Ok(area_label_of(counts, &unsound, &pairs)),
+        number => Err(number),
+    }
 }
 
 /// Reads a record: the number, and the value, zero where it is refused.

@@ -12,6 +12,8 @@ pub mod compare;
 #[cfg(feature = "engine")]
 pub mod engine;
 pub mod exchange;
+#[cfg(feature = "engine")]
+pub mod front;
 pub mod random;
 pub mod spread;
 pub mod terminal;

@@ -2,6 +2,7 @@
 
 pub mod boundary;
 pub mod cells;
+pub mod label;
 pub mod message;
 pub mod planted;
 pub mod records;
@@ -9,7 +10,9 @@ pub mod refusal;
 pub mod settings;
 pub mod tables;
 pub mod trace;
+pub mod who;
 pub mod words;
+pub mod writes;
 
 pub use cells::check_area;
 pub use message::{carry_out, carry_out_planted, Answer, MessageRef, Remembered};

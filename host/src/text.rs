@@ -2,17 +2,19 @@
 //!
 //! [`pack`] turns text into the bytes that the trace program reads, [`unpack`]
 //! turns any bytes back into text, and packing that text gives the same bytes
-//! again. The README describes the lines. [`trace_with_changes`] shows what each
-//! message of a trace does.
+//! again. [`read_text`] has what the bytes have no place for too: settings and
+//! owners. The README describes the lines.
 
-mod changes;
+mod owners;
 mod pack;
+mod settings;
 mod tokens;
 mod unpack;
 
-pub use changes::trace_with_changes;
-pub use pack::pack;
+pub use owners::Owners;
 pub(crate) use pack::Packer;
+pub use pack::{pack, read_names, read_text, TraceText};
+pub(crate) use settings::{read_settings, write_settings};
 pub use tokens::TextError;
 pub(crate) use tokens::{mismatch, shown, Mismatch, Tokens};
 pub use unpack::unpack;

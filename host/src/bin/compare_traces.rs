@@ -100,7 +100,7 @@ fn report(options: &Options, trace: &[u8], seed: u64) -> Result<(), Box<dyn Erro
     print!("{}", String::from_utf8_lossy(&expected));
     println!("the program prints:");
     print!("{}", String::from_utf8_lossy(&found));
-    println!("the smallest trace found, to be run with scripts/trace FILE:");
+    println!("the smallest trace found, to be run with ./solkverva run FILE:");
     print!("{}", unpack(&smallest));
     Ok(())
 }

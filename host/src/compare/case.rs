@@ -149,7 +149,7 @@ impl Answers {
         let answer = &self.answer;
         lines.push(format_args!("number: {}", answer.number));
         if answer.number == 0 {
-            let sent = if answer.sent { "sent" } else { "not sent" };
+            let sent = if answer.answered { "sent" } else { "not sent" };
             lines.push(format_args!("block status: {:04X}", answer.block_status));
             lines.push(format_args!("cell: {}", answer.cell));
             lines.push(format_args!(
@@ -157,7 +157,7 @@ impl Answers {
                 answer.pointer_before, answer.pointer_after
             ));
             lines.push(format_args!("status: {:04X}, {sent}", answer.status));
-            lines.push(format_args!("data words sent: {}", answer.data_words));
+            lines.push(format_args!("data words sent: {}", answer.sent));
             lines.push(format_args!("interrupt word: {:04X}", answer.interrupt));
         }
         lines.0
@@ -209,8 +209,8 @@ impl Lines {
         self.word("pointer before", left.pointer_before, right.pointer_before);
         self.word("pointer after", left.pointer_after, right.pointer_after);
         self.word("status", left.status, right.status);
-        self.debug("status sent", &left.sent, &right.sent);
-        self.debug("data words sent", &left.data_words, &right.data_words);
+        self.debug("status sent", &left.answered, &right.answered);
+        self.debug("data words sent", &left.sent, &right.sent);
         self.word("interrupt word", left.interrupt, right.interrupt);
     }
 }

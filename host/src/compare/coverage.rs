@@ -241,7 +241,7 @@ impl Coverage {
         self.take_in_record(record);
         self.take_in_answer(settings, answer);
         let moved = if Command(record.command).is_transmit() {
-            answer.data_words
+            answer.sent
         } else {
             self.take_in_stored(settings, record, answer)
         };
@@ -276,9 +276,9 @@ impl Coverage {
         self.note(RolloverInterrupt, answer.interrupt & 0x0400 != 0);
         self.note(EndInterrupt, answer.interrupt & 0x0004 != 0);
         self.note(StackWrapped, answer.interrupt & 0x0040 != 0);
-        self.note(NoStatus, !answer.sent);
-        self.note(WordsSent, answer.data_words > 0);
-        self.note(Sent32, answer.data_words == 32);
+        self.note(NoStatus, !answer.answered);
+        self.note(WordsSent, answer.sent > 0);
+        self.note(Sent32, answer.sent == 32);
     }
 
     /// Takes in what became of the words of a receive command; returns how

@@ -1,7 +1,7 @@
 //! A case as text that a person can read, change and run again.
 //!
 //! The lines of [`crate::text`] stand for RAM and for a message that keeps its
-//! layout. These come beside them, each once:
+//! layout; `owner` lines say nothing here. These come beside them, each once:
 //!
 //! - `settings address N area A|B stack N` and then the names of the yes/no
 //!   settings that are on;
@@ -23,7 +23,10 @@ use crate::terminal::message::REPLY_WORDS;
 use crate::terminal::records::{Record, RECORD_BYTES};
 use crate::terminal::trace::{image_bytes, image_words, IMAGE_BYTES};
 use crate::terminal::Settings;
-use crate::text::{mismatch, shown, unpack, write_words, Mismatch, Packer, TextError, Tokens};
+use crate::text::{
+    mismatch, read_settings, shown, unpack, write_settings, write_words, Mismatch, Packer,
+    TextError, Tokens,
+};
 
 /// The text of a case.
 pub fn write_case(case: &Case) -> String {
@@ -60,18 +63,6 @@ fn write_lines(text: &mut String, case: &Case) -> fmt::Result {
             write_value(text, record)
         }
     }
-}
-
-fn write_settings(text: &mut String, mut settings: Settings) -> fmt::Result {
-    let area = if settings.area_b { 'B' } else { 'A' };
-    write!(text, "settings address {} ", settings.address)?;
-    write!(text, "area {area} stack {}", settings.stack_size)?;
-    for (name, switch) in Settings::SWITCHES {
-        if *switch(&mut settings) {
-            write!(text, " {name}")?;
-        }
-    }
-    writeln!(text)
 }
 
 fn write_bytes(text: &mut String, bytes: &[u8]) -> fmt::Result {
@@ -122,7 +113,7 @@ struct Reading {
 /// What the lines are called that are a message.
 const MESSAGE: &str = "message";
 
-const LINES: &str = "settings, lent, remembered, reply, ram, message, raw, bytes or value";
+const LINES: &str = "settings, owner, lent, remembered, reply, ram, message, raw, bytes or value";
 
 impl Reading {
     fn new() -> Reading {
@@ -146,7 +137,7 @@ impl Reading {
         let mut tokens = Tokens::new(line);
         let kind = match tokens.next() {
             None => return Ok(()),
-            Some("ram") => return self.packer.line(line.as_bytes()),
+            Some("ram" | "owner") => return self.packer.line(line.as_bytes()),
             Some("message" | "raw") => {
                 self.packer.line(line.as_bytes())?;
                 return self.once(MESSAGE);
@@ -202,7 +193,7 @@ impl Reading {
         if !self.met.contains(&MESSAGE) {
             return mismatch("no message", "a message, raw, bytes or value line");
         }
-        let input = self.packer.finish();
+        let input = self.packer.finish().bytes;
         let (image, record) = input.split_at(IMAGE_BYTES);
         self.case.state.ram[..RAM_WORDS].copy_from_slice(&image_words(image));
         if !record.is_empty() {
@@ -210,33 +201,6 @@ impl Reading {
         }
         Ok(self.case)
     }
-}
-
-fn read_settings(tokens: &mut Tokens) -> Result<Settings, Mismatch> {
-    tokens.name("address")?;
-    let address = tokens.decimal("an address", 0xFFFF)? as u16;
-    tokens.name("area")?;
-    let area_b = match tokens.next() {
-        Some("A") => false,
-        Some("B") => true,
-        other => return mismatch(shown(other), "A or B"),
-    };
-    tokens.name("stack")?;
-    let mut settings = Settings {
-        address,
-        area_b,
-        stack_size: tokens.decimal("a stack size", 0xFFFF)? as u16,
-        overwrite_invalid: false,
-        ..Settings::TRACE
-    };
-    for token in tokens {
-        let mut switches = Settings::SWITCHES.iter();
-        match switches.find(|(name, _)| *name == token) {
-            Some((_, switch)) => *switch(&mut settings) = true,
-            None => return mismatch(shown(Some(token)), "the name of a yes/no setting"),
-        }
-    }
-    Ok(settings)
 }
 
 fn read_lent(tokens: &mut Tokens) -> Result<(usize, usize), Mismatch> {

@@ -4,6 +4,10 @@
 //! anything else of the same call. Borrowed slices keep to that by themselves,
 //! so these functions are safe to call with slices of any contents and length.
 
+mod origins;
+
+pub use origins::{who, who_entry, who_fill};
+
 mod linked {
     extern "C" {
         pub fn solkverva_check_area(
@@ -26,7 +30,7 @@ mod linked {
             bytes_length: usize,
             answer: *mut u16,
             answer_words: usize,
-        );
+        ) -> u16;
 
         pub fn solkverva_message_value(
             ram: *mut u16,
@@ -41,7 +45,30 @@ mod linked {
             value_words: usize,
             answer: *mut u16,
             answer_words: usize,
-        );
+        ) -> u16;
+
+        pub fn solkverva_label_cell(
+            ram: *const u16,
+            ram_words: usize,
+            settings: *const u16,
+            settings_words: usize,
+            cell: u16,
+            listing: *mut u16,
+            listing_words: usize,
+        ) -> u16;
+
+        pub fn solkverva_label_area(
+            ram: *const u16,
+            ram_words: usize,
+            settings: *const u16,
+            settings_words: usize,
+            counts: *mut u16,
+            counts_words: usize,
+            unsound: *mut u16,
+            unsound_words: usize,
+            pairs: *mut u16,
+            pairs_words: usize,
+        ) -> u16;
 
         pub fn solkverva_read(
             bytes: *const u8,
@@ -67,7 +94,8 @@ pub fn check_area(ram: &[u16], settings: &[u16]) -> u32 {
     }
 }
 
-/// One message from the bytes of a record.
+/// One message from the bytes of a record: the number, which is also the
+/// answer's first word.
 pub fn message(
     ram: &mut [u16],
     reply: &mut [u16],
@@ -75,7 +103,7 @@ pub fn message(
     remembered: &mut [u16],
     bytes: &[u8],
     answer: &mut [u16],
-) {
+) -> u16 {
     // SAFETY: each pointer and length is a slice's, and what is written is
     // borrowed for this call alone.
     unsafe {
@@ -96,7 +124,7 @@ pub fn message(
     }
 }
 
-/// One message from the words of a record value.
+/// One message from the words of a record value: the number, as of `message`.
 pub fn message_value(
     ram: &mut [u16],
     reply: &mut [u16],
@@ -104,7 +132,7 @@ pub fn message_value(
     remembered: &mut [u16],
     value: &[u16],
     answer: &mut [u16],
-) {
+) -> u16 {
     // SAFETY: as for `message`.
     unsafe {
         linked::solkverva_message_value(
@@ -120,6 +148,48 @@ pub fn message_value(
             value.len(),
             answer.as_mut_ptr(),
             answer.len(),
+        )
+    }
+}
+
+/// The label of one cell: the number, and the words of its listing.
+pub fn label_cell(ram: &[u16], settings: &[u16], cell: u16, listing: &mut [u16]) -> u16 {
+    // SAFETY: as for `message`.
+    unsafe {
+        linked::solkverva_label_cell(
+            ram.as_ptr(),
+            ram.len(),
+            settings.as_ptr(),
+            settings.len(),
+            cell,
+            listing.as_mut_ptr(),
+            listing.len(),
+        )
+    }
+}
+
+/// The label of the whole area: the number, how many unsound cells and pairs
+/// there are, and both.
+pub fn label_area(
+    ram: &[u16],
+    settings: &[u16],
+    counts: &mut [u16],
+    unsound: &mut [u16],
+    pairs: &mut [u16],
+) -> u16 {
+    // SAFETY: as for `message`.
+    unsafe {
+        linked::solkverva_label_area(
+            ram.as_ptr(),
+            ram.len(),
+            settings.as_ptr(),
+            settings.len(),
+            counts.as_mut_ptr(),
+            counts.len(),
+            unsound.as_mut_ptr(),
+            unsound.len(),
+            pairs.as_mut_ptr(),
+            pairs.len(),
         )
     }
 }

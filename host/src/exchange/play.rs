@@ -109,7 +109,7 @@ fn show(stack: &Stack, state: &State, answer: Answer) -> Shown {
     if let Some(words) = state.ram.get(stack.descriptor()) {
         descriptor.copy_from_slice(words);
     }
-    let words_sent = usize::from(answer.sent) + usize::from(answer.data_words);
+    let words_sent = usize::from(answer.answered) + usize::from(answer.sent);
     Shown {
         answer,
         descriptor,

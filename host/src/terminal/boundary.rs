@@ -5,6 +5,7 @@
 //! A slice may have any length: missing words are read as 0, and words for
 //! which there is no room are dropped.
 
+use super::label::{self, AreaLabel, Sharer};
 use super::records::RECORD_WORDS;
 use super::{carry_out, Answer, MessageRef, Record, Remembered, Settings};
 
@@ -16,6 +17,16 @@ pub const REMEMBERED_WORDS: usize = 2;
 pub const VALUE_WORDS: usize = HEAD_WORDS + RECORD_WORDS;
 /// Words of an answer.
 pub const ANSWER_WORDS: usize = 9;
+/// Cells that there can be: three kinds, thirty subaddresses.
+const CELLS: usize = 90;
+/// Words of a cell's listing: how many, and two for each other cell.
+pub const LISTING_WORDS: usize = 1 + 2 * (CELLS - 1);
+/// Words of the counts: of unsound cells and of pairs.
+pub const COUNTS_WORDS: usize = 2;
+/// Words of the unsound cells.
+pub const UNSOUND_WORDS: usize = CELLS;
+/// Words of the pairs, when each two cells meet.
+pub const PAIRS_WORDS: usize = CELLS * (CELLS - 1) / 2;
 
 /// Words of a value before its data words.
 const HEAD_WORDS: usize = 4;
@@ -27,7 +38,8 @@ pub fn check_area(ram: &[u16], settings: &[u16]) -> u32 {
     u32::from(number) << 16 | u32::from(cell)
 }
 
-/// One message from the bytes of a record.
+/// One message from the bytes of a record: the number, which is also the
+/// answer's first word.
 #[inline(never)]
 pub fn message(
     ram: &mut [u16],
@@ -36,14 +48,14 @@ pub fn message(
     remembered: &mut [u16],
     bytes: &[u8],
     answer: &mut [u16],
-) {
+) -> u16 {
     let settings = settings_of(settings);
     let before = remembered_of(remembered);
     let outcome = carry_out(ram, reply, &settings, before, MessageRef::Bytes(bytes));
-    put_outcome(outcome, remembered, answer);
+    put_outcome(outcome, remembered, answer)
 }
 
-/// One message from the words of a record value.
+/// One message from the words of a record value: the number, as of [`message`].
 #[inline(never)]
 pub fn message_value(
     ram: &mut [u16],
@@ -52,12 +64,12 @@ pub fn message_value(
     remembered: &mut [u16],
     value: &[u16],
     answer: &mut [u16],
-) {
+) -> u16 {
     let settings = settings_of(settings);
     let before = remembered_of(remembered);
     let record = record_of(value);
     let outcome = carry_out(ram, reply, &settings, before, MessageRef::Value(&record));
-    put_outcome(outcome, remembered, answer);
+    put_outcome(outcome, remembered, answer)
 }
 
 /// The record reader: 0, 4 or 5, and the value's words.
@@ -73,9 +85,43 @@ pub fn write(value: &[u16], bytes: &mut [u8]) -> u16 {
     put_or_zero(bytes, super::write_record(&record_of(value)))
 }
 
-fn put_outcome(outcome: (Answer, Remembered), remembered: &mut [u16], answer: &mut [u16]) {
+/// The label of one cell: the number, and the words of its listing.
+#[inline(never)]
+pub fn label_cell(ram: &[u16], settings: &[u16], cell: u16, listing: &mut [u16]) -> u16 {
+    let sharers = label::label_cell(ram, &settings_of(settings), cell);
+    put_or_zero(listing, sharers.map(|sharers| listing_words(&sharers)))
+}
+
+/// The label of the whole area: the number, how many unsound cells and pairs
+/// there are, and both. The pairs keep their contents where it is refused.
+#[inline(never)]
+pub fn label_area(
+    ram: &[u16],
+    settings: &[u16],
+    counts: &mut [u16],
+    unsound: &mut [u16],
+    pairs: &mut [u16],
+) -> u16 {
+    let found = label::label_area(ram, &settings_of(settings));
+    let number = found.as_ref().err().copied().unwrap_or(0);
+    let label = found.unwrap_or_default();
+    put(
+        counts,
+        &[label.unsound.len() as u16, label.pairs.len() as u16],
+    );
+    let mut cells = [0; UNSOUND_WORDS];
+    put(&mut cells, &label.unsound);
+    put(unsound, &cells);
+    for (word, (lower, higher)) in pairs.iter_mut().zip(label.pairs) {
+        *word = lower << 8 | higher;
+    }
+    number
+}
+
+fn put_outcome(outcome: (Answer, Remembered), remembered: &mut [u16], answer: &mut [u16]) -> u16 {
     put(remembered, &remembered_words(outcome.1));
     put(answer, &answer_words(&outcome.0));
+    outcome.0.number
 }
 
 /// Puts what came of it, or zeros where a number refuses; returns the number.
@@ -180,8 +226,8 @@ pub fn answer_of(words: &[u16]) -> Answer {
         pointer_before: word_at(words, 3),
         pointer_after: word_at(words, 4),
         status: word_at(words, 5),
-        sent: word_at(words, 6) != 0,
-        data_words: word_at(words, 7),
+        answered: word_at(words, 6) != 0,
+        sent: word_at(words, 7),
         interrupt: word_at(words, 8),
     }
 }
@@ -194,8 +240,35 @@ pub fn answer_words(answer: &Answer) -> [u16; ANSWER_WORDS] {
         answer.pointer_before,
         answer.pointer_after,
         answer.status,
-        answer.sent.into(),
-        answer.data_words,
+        answer.answered.into(),
+        answer.sent,
         answer.interrupt,
     ]
+}
+
+fn listing_words(sharers: &[Sharer]) -> [u16; LISTING_WORDS] {
+    let mut listing = [0; LISTING_WORDS];
+    listing[0] = sharers.len() as u16;
+    for (words, sharer) in listing[1..].chunks_exact_mut(2).zip(sharers) {
+        words.copy_from_slice(&[sharer.cell, sharer.writes.into()]);
+    }
+    listing
+}
+
+pub fn sharers_of(listing: &[u16; LISTING_WORDS]) -> Vec<Sharer> {
+    let words = listing[1..].chunks_exact(2).take(listing[0].into());
+    let sharer = |words: &[u16]| Sharer {
+        cell: words[0],
+        writes: words[1] != 0,
+    };
+    words.map(sharer).collect()
+}
+
+pub fn area_label_of(counts: [u16; COUNTS_WORDS], unsound: &[u16], pairs: &[u16]) -> AreaLabel {
+    let [unsound_cells, all_pairs] = counts.map(usize::from);
+    let pair = |word: &u16| (word >> 8, word & 0xFF);
+    AreaLabel {
+        unsound: unsound[..unsound_cells].to_vec(),
+        pairs: pairs[..all_pairs].iter().map(pair).collect(),
+    }
 }

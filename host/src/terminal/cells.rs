@@ -11,7 +11,7 @@ use super::settings::Settings;
 pub const RAM_WORDS: usize = 4096;
 
 /// Words that every terminal needs for its own tables.
-const FIXED_AREAS: [Range<usize>; 2] = [0x0100..0x0248, 0x0300..0x0400];
+pub(crate) const FIXED_AREAS: [Range<usize>; 2] = [0x0100..0x0248, 0x0300..0x0400];
 
 const SINGLE_WORDS: usize = 32;
 const DOUBLE_WORDS: usize = 64;
@@ -206,6 +206,11 @@ pub fn check_area(ram: &[u16], settings: &Settings) -> (u16, u16) {
 }
 
 fn first_unsound_cell(ram: &[u16], settings: &Settings, stack: &Stack) -> Option<Cell> {
+    cells_read(ram, settings).find(|cell| !cell.is_sound(ram.len(), stack))
+}
+
+/// The cells that the whole-area check reads, in rising number.
+pub fn cells_read<'a>(ram: &'a [u16], settings: &'a Settings) -> impl Iterator<Item = Cell> + 'a {
     let kinds: &[Kind] = if settings.separate_broadcast {
         &[Kind::Receive, Kind::Transmit, Kind::Broadcast]
     } else {
@@ -213,6 +218,5 @@ fn first_unsound_cell(ram: &[u16], settings: &Settings, stack: &Stack) -> Option
     };
     kinds
         .iter()
-        .flat_map(|&kind| (1..=30).map(move |sub| Cell::read(ram, settings, kind, sub)))
-        .find(|cell| !cell.is_sound(ram.len(), stack))
+        .flat_map(move |&kind| (1..=30).map(move |sub| Cell::read(ram, settings, kind, sub)))
 }

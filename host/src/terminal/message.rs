@@ -38,8 +38,8 @@ pub struct Answer {
     pub pointer_after: u16,
     /// Worked out for every accepted message, sent or not.
     pub status: u16,
-    pub sent: bool,
-    pub data_words: u16,
+    pub answered: bool,
+    pub sent: u16,
     pub interrupt: u16,
 }
 
@@ -132,8 +132,8 @@ fn perform<const PLANTED: u8>(
     let (stack, cell) = locate(ram, settings, command)?;
     let judged = Judged::new::<PLANTED>(ram, settings, record);
     let status = status_word(&judged, settings);
-    let sent = judged.is_valid() && !command.is_broadcast();
-    if sent {
+    let answered = judged.is_valid() && !command.is_broadcast();
+    if answered {
         reply[0] = status;
     }
 
@@ -151,8 +151,8 @@ fn perform<const PLANTED: u8>(
         pointer_before: cell.pointer,
         pointer_after,
         status,
-        sent,
-        data_words: if command.is_transmit() { moved } else { 0 },
+        answered,
+        sent: if command.is_transmit() { moved } else { 0 },
         interrupt: interrupt_word(&judged, &cell, rollover, stack_wrapped),
     };
     let remembered = Remembered {
@@ -163,7 +163,11 @@ fn perform<const PLANTED: u8>(
 }
 
 /// Tests 6 to 9: the stack and the cell that a message would use.
-fn locate(ram: &[u16], settings: &Settings, command: Command) -> Result<(Stack, Cell), u16> {
+pub(super) fn locate(
+    ram: &[u16],
+    settings: &Settings,
+    command: Command,
+) -> Result<(Stack, Cell), u16> {
     check_command(command, settings)?;
     let stack = Stack::read(ram, settings);
     if !stack.is_sound(ram.len()) {
@@ -200,7 +204,7 @@ pub fn cell_kind(command: Command, settings: &Settings) -> Kind {
 }
 
 /// What is known of a message before any word moves (rules 1 and 2).
-struct Judged {
+pub(super) struct Judged {
     command: Command,
     /// Data words that the command asks for.
     word_count: u16,
@@ -213,7 +217,11 @@ struct Judged {
 }
 
 impl Judged {
-    fn new<const PLANTED: u8>(ram: &[u16], settings: &Settings, record: &Record) -> Judged {
+    pub(super) fn new<const PLANTED: u8>(
+        ram: &[u16],
+        settings: &Settings,
+        record: &Record,
+    ) -> Judged {
         let command = Command(record.command);
         let word_count = if PLANTED == ZERO_COUNT_IS_NONE {
             command.count_field()
@@ -236,12 +244,16 @@ impl Judged {
         }
     }
 
-    fn is_valid(&self) -> bool {
+    pub(super) fn is_valid(&self) -> bool {
         !(self.count_fault || self.sync_fault || self.invalid_word || self.contents_fault)
     }
 
     /// Rule 3.
-    fn words_to_store<const PLANTED: u8>(&self, settings: &Settings, record: &Record) -> u16 {
+    pub(super) fn words_to_store<const PLANTED: u8>(
+        &self,
+        settings: &Settings,
+        record: &Record,
+    ) -> u16 {
         let disabled = (self.illegal && settings.illegal_receive_disable)
             || (self.busy && settings.busy_receive_disable);
         let let_through = PLANTED == FAULTY_STORES_WHEN_DISABLED && !self.is_valid();
@@ -253,7 +265,7 @@ impl Judged {
     }
 
     /// Rule 4.
-    fn words_to_send(&self) -> u16 {
+    pub(super) fn words_to_send(&self) -> u16 {
         if self.is_valid() && !self.illegal && !self.busy {
             self.word_count
         } else {
@@ -286,7 +298,7 @@ fn move_words<const PLANTED: u8>(
 /// window's end, then those that wrapped to its start.
 ///
 /// A message has 32 words at most, so only a circular window is ever passed.
-fn runs<const PLANTED: u8>(cell: &Cell, count: u16) -> [Range<usize>; 2] {
+pub(super) fn runs<const PLANTED: u8>(cell: &Cell, count: u16) -> [Range<usize>; 2] {
     let window = if PLANTED == WRAP_BY_WORD_COUNT {
         0..RAM_WORDS
     } else {
@@ -331,7 +343,7 @@ fn move_pointer<const PLANTED: u8>(
 }
 
 /// The pointer after `moved` words, and whether it rolled over.
-fn next_pointer<const PLANTED: u8>(
+pub(super) fn next_pointer<const PLANTED: u8>(
     cell: &Cell,
     moved: u16,
     valid: bool,
@@ -385,7 +397,7 @@ fn push_descriptor(
 }
 
 /// Rule 7.
-fn block_status(judged: &Judged, record: &Record, rollover: bool) -> u16 {
+pub(super) fn block_status(judged: &Judged, record: &Record, rollover: bool) -> u16 {
     let fault = !judged.is_valid();
     bit(15, true)
         | bit(13, record.has_flag(FLAG_BUS_B))

@@ -14,6 +14,10 @@ pub const IMAGE_BYTES: usize = 2 * RAM_WORDS;
 /// Records read at a time when streaming.
 const BATCH_RECORDS: usize = 1024;
 
+/// What the program tells on standard error.
+pub const READING_FAILED: &str = "reading failed";
+pub const WRITING_FAILED: &str = "writing failed";
+
 /// A caller's trace and a place in it.
 #[derive(Clone, Copy, Debug)]
 pub struct TraceView<'a> {
@@ -42,23 +46,10 @@ pub fn trace_output(input: &[u8]) -> Vec<u8> {
 
 /// [`trace_output`] of a terminal with an error planted in it.
 pub fn planted_trace_output(planted: Planted, input: &[u8]) -> Vec<u8> {
-    watched_trace_output(planted, input, |_, _| ())
+    with_planted!(planted, whole_output(input))
 }
 
-/// [`planted_trace_output`] with a watcher, who is shown the terminal after
-/// each message and may add to the output.
-pub fn watched_trace_output(
-    planted: Planted,
-    input: &[u8],
-    watch: impl FnMut(&Watched, &mut Vec<u8>),
-) -> Vec<u8> {
-    with_planted!(planted, watched_output(input, watch))
-}
-
-fn watched_output<const PLANTED: u8>(
-    input: &[u8],
-    mut watch: impl FnMut(&Watched, &mut Vec<u8>),
-) -> Vec<u8> {
+fn whole_output<const PLANTED: u8>(input: &[u8]) -> Vec<u8> {
     let mut output = Vec::new();
     let image = match input.get(..IMAGE_BYTES) {
         Some(image) => image,
@@ -73,23 +64,10 @@ fn watched_output<const PLANTED: u8>(
         place: IMAGE_BYTES,
     };
     while let Some(record) = records.next_record() {
-        let answer = run.message(record, &mut output);
-        let watched = Watched {
-            answer: &answer,
-            ram: &run.ram,
-            reply: &run.reply,
-        };
-        watch(&watched, &mut output);
+        run.message(record, &mut output);
     }
     run.end(records.rest().len(), &mut output);
     output
-}
-
-/// A message's answer and what stands in RAM and reply after it.
-pub struct Watched<'a> {
-    pub answer: &'a Answer,
-    pub ram: &'a [u16],
-    pub reply: &'a [u16],
 }
 
 /// The RAM that an image stands for.
@@ -103,54 +81,90 @@ pub fn image_bytes(ram: &[u16]) -> Vec<u8> {
     ram.iter().flat_map(|word| word.to_be_bytes()).collect()
 }
 
-/// The trace program for input of any length, in bounded memory.
+/// The trace program for input of any length, in bounded memory. What fails is
+/// told on `errors`; no end line follows then. Answers whether nothing failed.
 ///
 /// Reads and writes in large pieces: neither side needs a buffer of its own.
-pub fn stream_trace(input: &mut dyn Read, output: &mut dyn Write) -> io::Result<()> {
+pub fn stream_trace(input: &mut dyn Read, output: &mut dyn Write, errors: &mut dyn Write) -> bool {
     let mut text = Vec::new();
     let mut image = vec![0; IMAGE_BYTES];
-    let image_read = fill(input, &mut image)?;
-    if image_read < IMAGE_BYTES {
-        push_line(&mut text, b"image ", image_read as u64);
-        output.write_all(&text)?;
-        return output.flush();
+    let read = fill_or_tell(input, &mut image, errors);
+    if read.failed {
+        return false;
+    }
+    if read.bytes < IMAGE_BYTES {
+        push_line(&mut text, b"image ", read.bytes as u64);
+        return print(output, &text, errors);
     }
     let mut run = Run::<NONE>::new(&image);
     let mut batch = vec![0; BATCH_RECORDS * RECORD_BYTES];
     loop {
-        let batch_read = fill(input, &mut batch)?;
+        let read = fill_or_tell(input, &mut batch, errors);
         let mut records = TraceView {
-            bytes: &batch[..batch_read],
+            bytes: &batch[..read.bytes],
             place: 0,
         };
         while let Some(record) = records.next_record() {
             run.message(record, &mut text);
         }
-        // Only the end of the input leaves a batch short.
-        let at_end = batch_read < batch.len();
-        if at_end {
+        // Only the end of the input, or a failed read, leaves a batch short.
+        let at_end = read.bytes < batch.len();
+        if at_end && !read.failed {
             run.end(records.rest().len(), &mut text);
         }
-        output.write_all(&text)?;
-        if at_end {
-            return output.flush();
+        let printed = print(output, &text, errors);
+        if at_end || !printed {
+            return printed && !read.failed;
         }
         text.clear();
     }
 }
 
-/// Reads until the buffer is full or the input ends; returns the bytes read.
-fn fill(input: &mut dyn Read, buffer: &mut [u8]) -> io::Result<usize> {
-    let mut filled = 0;
-    while filled < buffer.len() {
-        match input.read(&mut buffer[filled..]) {
+/// Reads until the buffer is full, the input ends or a read fails: how many
+/// bytes were read, and how the last read went.
+pub(crate) fn fill(input: &mut dyn Read, buffer: &mut [u8]) -> (usize, io::Result<()>) {
+    let mut bytes = 0;
+    while bytes < buffer.len() {
+        match input.read(&mut buffer[bytes..]) {
             Ok(0) => break,
-            Ok(read) => filled += read,
+            Ok(read) => bytes += read,
             Err(error) if error.kind() == io::ErrorKind::Interrupted => {}
-            Err(error) => return Err(error),
+            Err(error) => return (bytes, Err(error)),
         }
     }
-    Ok(filled)
+    (bytes, Ok(()))
+}
+
+/// How many bytes were read, and whether reading failed after them.
+struct Filled {
+    bytes: usize,
+    failed: bool,
+}
+
+/// [`fill`] that tells a failed read.
+fn fill_or_tell(input: &mut dyn Read, buffer: &mut [u8], errors: &mut dyn Write) -> Filled {
+    let (bytes, read) = fill(input, buffer);
+    if read.is_err() {
+        tell(errors, READING_FAILED);
+    }
+    Filled {
+        bytes,
+        failed: read.is_err(),
+    }
+}
+
+/// Writes the whole text, or tells that it could not.
+fn print(output: &mut dyn Write, text: &[u8], errors: &mut dyn Write) -> bool {
+    let printed = output.write_all(text).and_then(|()| output.flush());
+    if printed.is_err() {
+        tell(errors, WRITING_FAILED);
+    }
+    printed.is_ok()
+}
+
+/// Where even this cannot be written there is nobody to tell.
+pub fn tell(errors: &mut dyn Write, what: &str) {
+    let _ = writeln!(errors, "{what}");
 }
 
 /// The terminal in the middle of a trace.
@@ -172,7 +186,7 @@ impl<const PLANTED: u8> Run<PLANTED> {
         }
     }
 
-    fn message(&mut self, record: &[u8], output: &mut Vec<u8>) -> Answer {
+    fn message(&mut self, record: &[u8], output: &mut Vec<u8>) {
         let (answer, remembered) = carry_out_with::<PLANTED>(
             &mut self.ram,
             &mut self.reply,
@@ -183,7 +197,6 @@ impl<const PLANTED: u8> Run<PLANTED> {
         self.remembered = remembered;
         self.records += 1;
         push_answer(output, self.records, &answer);
-        answer
     }
 
     fn end(&self, tail: usize, output: &mut Vec<u8>) {
@@ -194,7 +207,7 @@ impl<const PLANTED: u8> Run<PLANTED> {
     }
 }
 
-fn push_answer(output: &mut Vec<u8>, record: u64, answer: &Answer) {
+pub(crate) fn push_answer(output: &mut Vec<u8>, record: u64, answer: &Answer) {
     push_decimal(output, record);
     output.push(b' ');
     push_decimal(output, answer.number.into());
@@ -209,17 +222,17 @@ fn push_columns(output: &mut Vec<u8>, answer: &Answer) {
     push_hex(output, answer.block_status);
     push_hex(output, answer.pointer_before);
     push_hex(output, answer.pointer_after);
-    if answer.sent {
+    if answer.answered {
         push_hex(output, answer.status);
     } else {
         output.extend_from_slice(b" none");
     }
     output.push(b' ');
-    push_decimal(output, answer.data_words.into());
+    push_decimal(output, answer.sent.into());
     push_hex(output, answer.interrupt);
 }
 
-fn push_line(output: &mut Vec<u8>, name: &[u8], number: u64) {
+pub(crate) fn push_line(output: &mut Vec<u8>, name: &[u8], number: u64) {
     output.extend_from_slice(name);
     push_decimal(output, number);
     output.push(b'\n');

@@ -1,21 +1,64 @@
 //! From text to bytes.
 
+use super::owners::Owners;
+use super::settings::read_settings;
 use super::tokens::{mismatch, shown, Mismatch, TextError, Tokens};
 use crate::terminal::cells::RAM_WORDS;
 use crate::terminal::records::{
     Record, FLAG_BUS_B, FLAG_INVALID_WORD, FLAG_WRONG_SYNC, RECORD_BYTES, RECORD_WORDS, TOO_MANY,
 };
 use crate::terminal::trace::IMAGE_BYTES;
-use crate::terminal::write_record;
+use crate::terminal::{write_record, Settings};
+
+/// What a text says.
+pub struct TraceText {
+    /// The image and the records, as the trace program reads them.
+    pub bytes: Vec<u8>,
+    /// None where the text leaves them to the trace program.
+    pub settings: Option<Settings>,
+    pub owners: Owners,
+}
 
 /// The bytes that a text stands for.
 pub fn pack(text: &[u8]) -> Result<Vec<u8>, TextError> {
+    Ok(read_text(text)?.bytes)
+}
+
+/// All that a text says.
+pub fn read_text(text: &[u8]) -> Result<TraceText, TextError> {
+    read_lines(text, |packer, line| packer.line(line))
+}
+
+/// A text with settings and owner lines only.
+pub fn read_names(text: &[u8]) -> Result<TraceText, TextError> {
+    read_lines(text, |packer, line| {
+        let text = utf8(line)?;
+        match Tokens::new(text).next() {
+            None | Some("settings" | "owner") => packer.line(line),
+            other => mismatch(shown(other), "settings or owner"),
+        }
+    })
+}
+
+fn read_lines(
+    text: &[u8],
+    read: impl Fn(&mut Packer, &[u8]) -> Result<(), Mismatch>,
+) -> Result<TraceText, TextError> {
     let mut packer = Packer::new();
+    let text = text.strip_prefix(BYTE_ORDER_MARK).unwrap_or(text);
     for (index, line) in text.split(|&byte| byte == b'\n').enumerate() {
-        let read = packer.line(line);
+        let read = read(&mut packer, line);
         read.map_err(|mismatch| mismatch.in_line(index + 1))?;
     }
     Ok(packer.finish())
+}
+
+/// Some editors put it before the first line.
+const BYTE_ORDER_MARK: &[u8] = b"\xEF\xBB\xBF";
+
+fn utf8(line: &[u8]) -> Result<&str, Mismatch> {
+    let text = std::str::from_utf8(line);
+    text.or_else(|_| mismatch("bytes that are not text", "text in UTF-8"))
 }
 
 /// How far the text has come; lines of an earlier part are refused, since they
@@ -33,6 +76,8 @@ pub struct Packer {
     image: Vec<u8>,
     records: Vec<u8>,
     part: Part,
+    settings: Option<Settings>,
+    owners: Owners,
 }
 
 impl Packer {
@@ -41,29 +86,60 @@ impl Packer {
             image: vec![0; IMAGE_BYTES],
             records: Vec::new(),
             part: Part::Start,
+            settings: None,
+            owners: Owners::default(),
         }
     }
 
-    pub fn finish(mut self) -> Vec<u8> {
+    pub fn finish(mut self) -> TraceText {
         self.image.append(&mut self.records);
-        self.image
+        TraceText {
+            bytes: self.image,
+            settings: self.settings,
+            owners: self.owners,
+        }
     }
 
     pub fn line(&mut self, line: &[u8]) -> Result<(), Mismatch> {
-        let line = match std::str::from_utf8(line) {
-            Ok(line) => line,
-            Err(_) => return mismatch("bytes that are not text", "text in UTF-8"),
-        };
-        let mut tokens = Tokens::new(line);
+        let mut tokens = Tokens::new(utf8(line)?);
         match tokens.next() {
             None => return Ok(()),
+            Some("settings") => self.settings_line(&mut tokens)?,
+            Some("owner") => self.owner_line(&mut tokens)?,
             Some("image") => self.image_line(&mut tokens)?,
             Some("ram") => self.ram_line(&mut tokens)?,
             Some("message") => self.message_line(&mut tokens)?,
             Some("raw") => self.raw_line(&mut tokens)?,
-            other => return mismatch(shown(other), "image, ram, message or raw"),
+            other => {
+                let expected = "settings, owner, image, ram, message or raw";
+                return mismatch(shown(other), expected);
+            }
         }
         tokens.end()
+    }
+
+    /// `settings ...`: for the whole trace.
+    fn settings_line(&mut self, tokens: &mut Tokens) -> Result<(), Mismatch> {
+        self.before_records("settings")?;
+        if self.settings.is_some() {
+            return mismatch("a second settings line", "one");
+        }
+        self.settings = Some(read_settings(tokens)?);
+        Ok(())
+    }
+
+    /// `owner SUBADDRESS NAME`
+    fn owner_line(&mut self, tokens: &mut Tokens) -> Result<(), Mismatch> {
+        self.before_records("owner")?;
+        self.owners.read(tokens)
+    }
+
+    fn before_records(&self, name: &str) -> Result<(), Mismatch> {
+        if self.part > Part::Ram {
+            let expected = format!("every {name} line before the first record");
+            return mismatch(format!("{name} after a record"), expected);
+        }
+        Ok(())
     }
 
     /// `image LENGTH`: the input stops inside the image.
@@ -79,12 +155,7 @@ impl Packer {
 
     /// `ram ADDRESS WORD...`
     fn ram_line(&mut self, tokens: &mut Tokens) -> Result<(), Mismatch> {
-        if self.part > Part::Ram {
-            return mismatch(
-                "ram after a record",
-                "every ram line before the first record",
-            );
-        }
+        self.before_records("ram")?;
         self.part = Part::Ram;
         let mut address = usize::from(tokens.hex_word("an address")?);
         loop {

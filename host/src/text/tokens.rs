@@ -49,11 +49,20 @@ pub fn mismatch<T>(found: impl Into<String>, expected: impl Into<String>) -> Res
     })
 }
 
+/// The most characters that are shown of a piece.
+const SHOWN: usize = 40;
+
 /// How a piece of a line is shown, or that there is none.
 pub fn shown(token: Option<&str>) -> String {
-    token.map_or("the end of the line".to_string(), |token| {
-        format!("\"{token}\"")
-    })
+    match token {
+        None => "the end of the line".to_string(),
+        Some(token) => {
+            let start: String = token.chars().take(SHOWN).collect();
+            let rest = if start.len() < token.len() { "..." } else { "" };
+            // What a terminal would obey instead of showing it is spelled out.
+            format!("\"{}\"{rest}", start.escape_debug())
+        }
+    }
 }
 
 /// The blank-separated pieces of a line, up to a comment.

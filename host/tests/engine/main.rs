@@ -1,6 +1,10 @@
 //! The proved terminal, called through its boundary. Needs the feature
 //! `engine`.
 
+mod labels;
+mod page;
+mod soundness;
+
 use plain_terminal::compare::coverage::Coverage;
 use plain_terminal::compare::shrink::shrink;
 use plain_terminal::compare::sides::Proved;
@@ -36,7 +40,7 @@ fn the_example_through_the_boundary() {
     let mut reply = [0xEEEE; 33];
     let mut remembered = [0; 2];
     let mut answer = [0xEEEE; 9];
-    proved::message(
+    let number = proved::message(
         &mut ram,
         &mut reply,
         &settings_words(&Settings::TRACE),
@@ -45,7 +49,7 @@ fn the_example_through_the_boundary() {
         &mut answer,
     );
     let expected = [0, 0x8080, 3, 0x047E, 0x0402, 0x2800, 1, 0, 0x0403];
-    assert_eq!(answer, expected);
+    assert_eq!((number, answer), (0, expected));
     assert_eq!(remembered, [0x2864, 0x2800]);
     assert_eq!(reply[..2], [0x2800, 0xEEEE]);
     assert_eq!(ram[0x047E..0x0480], [0x1111, 0x2222]);
@@ -115,12 +119,16 @@ fn slices_of_any_length_for_a_message() {
         let mut left = (example_ram(), [0xEEEE; 33], remembered, answer);
         let mut right = left.clone();
         let (ram, reply, remembered, answer) = &mut left;
-        plain::message(ram, reply, &settings, remembered, &bytes, answer);
-        plain::message_value(ram, reply, &settings, remembered, &value, answer);
+        let plain = [
+            plain::message(ram, reply, &settings, remembered, &bytes, answer),
+            plain::message_value(ram, reply, &settings, remembered, &value, answer),
+        ];
         let (ram, reply, remembered, answer) = &mut right;
-        proved::message(ram, reply, &settings, remembered, &bytes, answer);
-        proved::message_value(ram, reply, &settings, remembered, &value, answer);
-        assert_eq!(left, right);
+        let proved = [
+            proved::message(ram, reply, &settings, remembered, &bytes, answer),
+            proved::message_value(ram, reply, &settings, remembered, &value, answer),
+        ];
+        assert_eq!((plain, left), (proved, right));
     }
 }
 

@@ -1,60 +1,299 @@
-/* The proved terminal called from C: the worked example of the scope document, through every function of the header. */
+/* The proved terminal called from C: the worked example of the scope document through every function of the header, each
+ * number by its name, and lengths that are wrong, short or 0. */
 #include <assert.h>
 #include <string.h>
 
 #include "solkverva.h"
 
-enum { RAM_WORDS = 4096, REPLY_WORDS = 33, RECORD_BYTES = 80 };
+/* One word more than what is used: it keeps its contents. */
+enum { REMEMBERED = SOLKVERVA_REMEMBERED_WORDS + 1, ANSWER = SOLKVERVA_ANSWER_WORDS + 1, UNTOUCHED = 0xEEEE };
 
 /* RT 5, area A, stack 256, overwrite-invalid on and the rest off. */
-static const uint16_t settings[11] = {5, 0, 256, 1};
+static uint16_t settings[SOLKVERVA_SETTINGS_WORDS] = {5, 0, 256, 1};
 
-static uint16_t ram[RAM_WORDS];
-static uint16_t reply[REPLY_WORDS];
-static uint16_t remembered[2];
-static uint16_t answer[9];
+static uint16_t ram[SOLKVERVA_RAM_WORDS];
+static uint16_t reply[SOLKVERVA_REPLY_WORDS];
+static uint16_t remembered[REMEMBERED] = {0, 0, UNTOUCHED};
+static uint16_t answer[ANSWER];
+static uint16_t receive[SOLKVERVA_VALUE_WORDS] = {0x2864, 0x0102, 0, 4, 0x1111, 0x2222, 0x3333, 0x4444};
+static uint16_t transmit[SOLKVERVA_VALUE_WORDS] = {0x2C62};
+static uint8_t bytes[SOLKVERVA_RECORD_BYTES];
 
-static void check_answer(uint16_t block_status, uint16_t cell, uint16_t before, uint16_t after, uint16_t sent,
-                         uint16_t interrupt)
+static uint16_t from_bytes(size_t ram_words, size_t reply_words, size_t bytes_length)
 {
-    const uint16_t expected[9] = {0, block_status, cell, before, after, 0x2800, 1, sent, interrupt};
-    assert(memcmp(answer, expected, sizeof expected) == 0);
+    memset(answer, 0xEE, sizeof answer);
+    return solkverva_message(ram, ram_words, reply, reply_words, settings, SOLKVERVA_SETTINGS_WORDS, remembered,
+                             REMEMBERED, bytes, bytes_length, answer, ANSWER);
 }
 
-int main(void)
+static uint16_t from_value(const uint16_t *value)
 {
-    uint16_t receive[36] = {0x2864, 0x0102, 0, 4, 0x1111, 0x2222, 0x3333, 0x4444};
-    uint16_t transmit[36] = {0x2C62};
-    uint16_t read_back[36];
-    uint8_t bytes[RECORD_BYTES];
+    memset(answer, 0xEE, sizeof answer);
+    return solkverva_message_value(ram, SOLKVERVA_RAM_WORDS, reply, SOLKVERVA_REPLY_WORDS, settings,
+                                   SOLKVERVA_SETTINGS_WORDS, remembered, REMEMBERED, value, SOLKVERVA_VALUE_WORDS,
+                                   answer, ANSWER);
+}
 
+static uint16_t example(void)
+{
+    return from_bytes(SOLKVERVA_RAM_WORDS, SOLKVERVA_REPLY_WORDS, SOLKVERVA_RECORD_BYTES);
+}
+
+static void start(void)
+{
+    memset(ram, 0, sizeof ram);
+    memset(reply, 0, sizeof reply);
+    memset(remembered, 0, 2 * sizeof remembered[0]);
     ram[0x0143] = 0x047E;
     ram[0x01A3] = 0x0120;
     ram[0x0163] = 0x0500;
     ram[0x0500] = 0xAAAA;
     ram[0x0501] = 0xBBBB;
+    assert(solkverva_write(receive, SOLKVERVA_VALUE_WORDS, bytes, sizeof bytes) == SOLKVERVA_DONE);
+}
 
-    /* Subaddress 1 points to the stack: 9, cell 1. */
-    assert(solkverva_check_area(ram, RAM_WORDS, settings, 11) == (9u << 16 | 1u));
+static void check_answer(uint16_t block_status, uint16_t cell, uint16_t before, uint16_t after, uint16_t sent,
+                         uint16_t interrupt)
+{
+    const uint16_t expected[ANSWER] = {SOLKVERVA_DONE, block_status, cell, before,    after,
+                                       0x2800,         1,            sent, interrupt, UNTOUCHED};
+    assert(memcmp(answer, expected, sizeof expected) == 0);
+}
 
-    assert(solkverva_write(receive, 36, bytes, RECORD_BYTES) == 0);
+static void the_reader_and_the_writer(void)
+{
+    uint16_t read_back[SOLKVERVA_VALUE_WORDS];
+
+    start();
     assert(bytes[0] == 0x28 && bytes[1] == 0x64 && bytes[7] == 4 && bytes[16] == 0x11 && bytes[79] == 0);
-    assert(solkverva_read(bytes, RECORD_BYTES, read_back, 36) == 0);
+    assert(solkverva_read(bytes, sizeof bytes, read_back, SOLKVERVA_VALUE_WORDS) == SOLKVERVA_DONE);
     assert(memcmp(read_back, receive, sizeof receive) == 0);
-    assert(solkverva_read(bytes, RECORD_BYTES - 1, read_back, 36) == 4);
+}
 
-    solkverva_message(ram, RAM_WORDS, reply, REPLY_WORDS, settings, 11, remembered, 2, bytes, RECORD_BYTES, answer, 9);
+static void the_worked_example(void)
+{
+    start();
+    assert(example() == SOLKVERVA_DONE);
     check_answer(0x8080, 3, 0x047E, 0x0402, 0, 0x0403);
     assert(ram[0x047E] == 0x1111 && ram[0x047F] == 0x2222 && ram[0x0400] == 0x3333 && ram[0x0401] == 0x4444);
     assert(ram[0x0143] == 0x0402 && ram[0x0100] == 4 && ram[0] == 0x8080 && ram[1] == 0x0102);
-    assert(reply[0] == 0x2800 && remembered[0] == 0x2864 && remembered[1] == 0x2800);
+    assert(reply[0] == 0x2800 && remembered[0] == 0x2864 && remembered[1] == 0x2800 && remembered[2] == UNTOUCHED);
 
-    solkverva_message_value(ram, RAM_WORDS, reply, REPLY_WORDS, settings, 11, remembered, 2, transmit, 36, answer, 9);
+    assert(from_value(transmit) == SOLKVERVA_DONE);
     check_answer(0x8000, 35, 0x0500, 0x0500, 2, 0x0003);
     assert(reply[0] == 0x2800 && reply[1] == 0xAAAA && reply[2] == 0xBBBB && reply[3] == 0);
+}
 
-    receive[0] = 0x3064;
-    solkverva_message_value(ram, RAM_WORDS, reply, REPLY_WORDS, settings, 11, remembered, 2, receive, 36, answer, 9);
-    assert(answer[0] == 6 && answer[1] == 0 && remembered[0] == 0x2C62);
+static uint16_t ram_before[SOLKVERVA_RAM_WORDS];
+
+/* A refused message has returned its number and left it with zeros in answer, and changed nothing else. */
+static void refused(uint16_t result, uint16_t number)
+{
+    const uint16_t expected[ANSWER] = {number, 0, 0, 0, 0, 0, 0, 0, 0, UNTOUCHED};
+    const uint16_t reply_before[SOLKVERVA_REPLY_WORDS] = {0};
+    const uint16_t remembered_before[REMEMBERED] = {0x1234, 0x5678, UNTOUCHED};
+
+    assert(result == number);
+    assert(memcmp(answer, expected, sizeof expected) == 0);
+    assert(memcmp(ram, ram_before, sizeof ram) == 0);
+    assert(memcmp(reply, reply_before, sizeof reply) == 0);
+    assert(memcmp(remembered, remembered_before, sizeof remembered) == 0);
+}
+
+/* The example with one word changed. */
+static uint16_t with(uint16_t *word, uint16_t changed)
+{
+    const uint16_t kept = *word;
+    uint16_t result;
+
+    *word = changed;
+    result = example();
+    *word = kept;
+    return result;
+}
+
+static uint16_t with_command(uint8_t high, uint8_t low)
+{
+    bytes[0] = high;
+    bytes[1] = low;
+    return example();
+}
+
+static void each_number(void)
+{
+    start();
+    memcpy(ram_before, ram, sizeof ram);
+    remembered[0] = 0x1234;
+    remembered[1] = 0x5678;
+    refused(from_bytes(SOLKVERVA_RAM_WORDS - 1, SOLKVERVA_REPLY_WORDS, sizeof bytes), SOLKVERVA_RAM_LENGTH);
+    refused(from_bytes(SOLKVERVA_RAM_WORDS, SOLKVERVA_REPLY_WORDS - 1, sizeof bytes), SOLKVERVA_REPLY_ROOM);
+    refused(with(&settings[0], 31), SOLKVERVA_BAD_SETTINGS);
+    refused(with(&settings[2], 300), SOLKVERVA_BAD_SETTINGS);
+    refused(from_bytes(SOLKVERVA_RAM_WORDS, SOLKVERVA_REPLY_WORDS, sizeof bytes - 1), SOLKVERVA_RECORD_LENGTH);
+    refused(with(&ram[0x0100], 0x0200), SOLKVERVA_UNSOUND_STACK);
+    refused(with(&ram[0x0143], 0x0100), SOLKVERVA_UNSOUND_CELL);
+    bytes[2] = 1;
+    refused(example(), SOLKVERVA_RECORD_LAYOUT);
+    bytes[2] = 0;
+    refused(with_command(0x30, 0x64), SOLKVERVA_OTHER_ADDRESS);
+    refused(with_command(0x28, 0x04), SOLKVERVA_MODE_SUBADDRESS);
+
+    receive[3] = 34;
+    refused(from_value(receive), SOLKVERVA_RECORD_LAYOUT);
+    assert(solkverva_write(receive, SOLKVERVA_VALUE_WORDS, bytes, sizeof bytes) == SOLKVERVA_RECORD_LAYOUT);
+    assert(bytes[0] == 0 && bytes[79] == 0);
+    receive[3] = 4;
+}
+
+static void the_whole_area(void)
+{
+    const uint32_t unsound = (uint32_t)SOLKVERVA_UNSOUND_CELL << 16 | 1;
+
+    start();
+    /* Subaddress 1 points to the stack. */
+    assert(solkverva_check_area(ram, SOLKVERVA_RAM_WORDS, settings, SOLKVERVA_SETTINGS_WORDS) == unsound);
+    assert(solkverva_check_area(ram, SOLKVERVA_RAM_WORDS - 1, settings, SOLKVERVA_SETTINGS_WORDS) ==
+           (uint32_t)SOLKVERVA_RAM_LENGTH << 16);
+    /* No settings at all: address 0, and stack size 0, which is refused. */
+    assert(solkverva_check_area(ram, SOLKVERVA_RAM_WORDS, NULL, 0) == (uint32_t)SOLKVERVA_BAD_SETTINGS << 16);
+}
+
+static uint16_t listing[SOLKVERVA_LISTING_WORDS + 1];
+static uint16_t counts[SOLKVERVA_COUNTS_WORDS + 1];
+static uint16_t unsound[SOLKVERVA_UNSOUND_WORDS + 1];
+static uint16_t pairs[SOLKVERVA_PAIRS_WORDS + 1];
+
+static uint16_t label_cell(size_t ram_words, uint16_t cell)
+{
+    memset(listing, 0xEE, sizeof listing);
+    return solkverva_label_cell(ram, ram_words, settings, SOLKVERVA_SETTINGS_WORDS, cell, listing,
+                                SOLKVERVA_LISTING_WORDS + 1);
+}
+
+static uint16_t label_area(size_t ram_words)
+{
+    memset(counts, 0xEE, sizeof counts);
+    memset(unsound, 0xEE, sizeof unsound);
+    memset(pairs, 0xEE, sizeof pairs);
+    return solkverva_label_area(ram, ram_words, settings, SOLKVERVA_SETTINGS_WORDS, counts, SOLKVERVA_COUNTS_WORDS + 1,
+                                unsound, SOLKVERVA_UNSOUND_WORDS + 1, pairs, SOLKVERVA_PAIRS_WORDS + 1);
+}
+
+/* Subaddress 3 receives in a circle at 0400 to 047F; 4 receives at 0470, and transmits what stands there. Transmit cell 3
+ * at 0500 meets none. All others lie in the stack. */
+static void the_labels(void)
+{
+    const uint16_t of_three[6] = {2, 4, 1, 36, 0, 0};
+
+    start();
+    ram[0x0144] = 0x0470;
+    ram[0x0164] = 0x0470;
+    assert(label_cell(SOLKVERVA_RAM_WORDS, 3) == SOLKVERVA_DONE);
+    assert(memcmp(listing, of_three, sizeof of_three) == 0);
+    assert(listing[SOLKVERVA_LISTING_WORDS - 1] == 0 && listing[SOLKVERVA_LISTING_WORDS] == UNTOUCHED);
+    assert(label_cell(SOLKVERVA_RAM_WORDS, 35) == SOLKVERVA_DONE && listing[0] == 0);
+
+    assert(label_area(SOLKVERVA_RAM_WORDS) == SOLKVERVA_DONE);
+    assert(counts[0] == 56 && counts[1] == 3 && counts[2] == UNTOUCHED);
+    assert(unsound[0] == 1 && unsound[1] == 2 && unsound[2] == 5 && unsound[55] == 62 && unsound[56] == 0);
+    assert(unsound[SOLKVERVA_UNSOUND_WORDS - 1] == 0 && unsound[SOLKVERVA_UNSOUND_WORDS] == UNTOUCHED);
+    assert(pairs[0] == 0x0304 && pairs[1] == 0x0324 && pairs[2] == 0x0424 && pairs[3] == UNTOUCHED);
+}
+
+static void refused_labels(void)
+{
+    start();
+    /* Cell 1 is unsound, 67 is a broadcast cell, which is not read here, and there is no cell 96. */
+    assert(label_cell(SOLKVERVA_RAM_WORDS, 1) == SOLKVERVA_UNSOUND_CELL);
+    assert(label_cell(SOLKVERVA_RAM_WORDS, 67) == SOLKVERVA_UNSOUND_CELL);
+    assert(label_cell(SOLKVERVA_RAM_WORDS, 96) == SOLKVERVA_UNSOUND_CELL);
+    assert(listing[0] == 0 && listing[SOLKVERVA_LISTING_WORDS - 1] == 0);
+    assert(listing[SOLKVERVA_LISTING_WORDS] == UNTOUCHED);
+    assert(label_cell(SOLKVERVA_RAM_WORDS - 1, 3) == SOLKVERVA_RAM_LENGTH);
+    assert(label_area(SOLKVERVA_RAM_WORDS - 1) == SOLKVERVA_RAM_LENGTH);
+    assert(counts[0] == 0 && counts[1] == 0 && counts[2] == UNTOUCHED);
+    assert(unsound[0] == 0 && unsound[SOLKVERVA_UNSOUND_WORDS - 1] == 0 && pairs[0] == UNTOUCHED);
+    ram[0x0100] = 0x0200;
+    assert(label_cell(SOLKVERVA_RAM_WORDS, 3) == SOLKVERVA_UNSOUND_STACK);
+    assert(label_area(SOLKVERVA_RAM_WORDS) == SOLKVERVA_UNSOUND_STACK);
+}
+
+static uint64_t numbers[SOLKVERVA_RAM_WORDS];
+static uint16_t marks[SOLKVERVA_RAM_WORDS];
+static uint64_t records;
+static uint64_t last[2] = {0, UNTOUCHED};
+static uint16_t part[SOLKVERVA_PART_WORDS + 1] = {0, 0, 0, UNTOUCHED};
+
+static uint16_t fill(size_t ram_words)
+{
+    return solkverva_who_fill(ram, ram_words, numbers, SOLKVERVA_RAM_WORDS, marks, SOLKVERVA_RAM_WORDS, settings,
+                              SOLKVERVA_SETTINGS_WORDS, remembered, REMEMBERED, &records, 1, bytes, sizeof bytes);
+}
+
+static void entry_is(uint16_t address, uint64_t number, uint16_t kind, uint16_t cell, uint16_t place)
+{
+    assert(solkverva_who_entry(numbers, SOLKVERVA_RAM_WORDS, marks, SOLKVERVA_RAM_WORDS, address, last, 2, part,
+                               SOLKVERVA_PART_WORDS + 1) == SOLKVERVA_DONE);
+    assert(last[0] == number && part[0] == kind && part[1] == cell && part[2] == place);
+    assert(last[1] == UNTOUCHED && part[SOLKVERVA_PART_WORDS] == UNTOUCHED);
+}
+
+/* The example twice: the second message writes from 0402 on. */
+static void who_put_a_word_there(void)
+{
+    start();
+    assert(fill(SOLKVERVA_RAM_WORDS - 1) == SOLKVERVA_RAM_LENGTH && records == 0);
+    assert(fill(SOLKVERVA_RAM_WORDS) == SOLKVERVA_DONE && fill(SOLKVERVA_RAM_WORDS) == SOLKVERVA_DONE && records == 2);
+    entry_is(0x047F, 1, 1, 3, 2);
+    entry_is(0x0402, 2, 1, 3, 1);
+    entry_is(0x0143, 2, 2, 3, 0);
+    entry_is(0x0003, 1, 3, 3, 4);
+    entry_is(0x0100, 2, 4, 3, 0);
+    entry_is(0x0500, 0, 0, 0, 0);
+    assert(solkverva_who_entry(numbers, SOLKVERVA_RAM_WORDS, marks, SOLKVERVA_RAM_WORDS, SOLKVERVA_RAM_WORDS, last, 2,
+                               part, SOLKVERVA_PART_WORDS + 1) == SOLKVERVA_ADDRESS_BEYOND);
+
+    start();
+    assert(solkverva_who(ram, SOLKVERVA_RAM_WORDS, settings, SOLKVERVA_SETTINGS_WORDS, 0x0400, bytes, sizeof bytes, last,
+                         2, part, SOLKVERVA_PART_WORDS + 1) == SOLKVERVA_DONE);
+    assert(last[0] == 1 && part[0] == 1 && part[1] == 3 && part[2] == 3 && ram[0x0400] == 0x3333);
+    assert(solkverva_who(ram, SOLKVERVA_RAM_WORDS, settings, SOLKVERVA_SETTINGS_WORDS, SOLKVERVA_RAM_WORDS, bytes,
+                         sizeof bytes, last, 2, part, SOLKVERVA_PART_WORDS + 1) == SOLKVERVA_ADDRESS_BEYOND);
+    assert(last[0] == 0 && part[0] == 0 && part[1] == 0 && part[2] == 0);
+}
+
+/* The number tells of a change in RAM where nothing else is lent. */
+static void nothing_lent(void)
+{
+    start();
+    assert(solkverva_message(ram, SOLKVERVA_RAM_WORDS, reply, SOLKVERVA_REPLY_WORDS, settings,
+                             SOLKVERVA_SETTINGS_WORDS, NULL, 0, bytes, sizeof bytes, NULL, 0) == SOLKVERVA_DONE);
+    assert(ram[0x0143] == 0x0402);
+    assert(solkverva_message_value(ram, SOLKVERVA_RAM_WORDS, reply, SOLKVERVA_REPLY_WORDS, settings, 4, NULL, 0,
+                                   transmit, 1, NULL, 0) == SOLKVERVA_DONE);
+    assert(ram[0x0100] == 8);
+    assert(solkverva_message(NULL, 0, NULL, 0, NULL, 0, NULL, 0, NULL, 0, NULL, 0) == SOLKVERVA_RAM_LENGTH);
+    assert(solkverva_label_cell(ram, SOLKVERVA_RAM_WORDS, settings, 4, 3, NULL, 0) == SOLKVERVA_DONE);
+    assert(solkverva_label_area(ram, SOLKVERVA_RAM_WORDS, settings, 4, NULL, 0, NULL, 0, NULL, 0) == SOLKVERVA_DONE);
+    assert(solkverva_who_fill(ram, SOLKVERVA_RAM_WORDS, NULL, 0, NULL, 0, settings, 4, NULL, 0, NULL, 0, bytes,
+                              sizeof bytes) == SOLKVERVA_DONE);
+    assert(ram[0x0100] == 12);
+    assert(solkverva_who_entry(NULL, 0, NULL, 0, 0, NULL, 0, NULL, 0) == SOLKVERVA_ADDRESS_BEYOND);
+    assert(solkverva_who(ram, SOLKVERVA_RAM_WORDS, settings, 4, 0, NULL, 0, NULL, 0, NULL, 0) == SOLKVERVA_DONE);
+    assert(solkverva_read(NULL, 0, NULL, 0) == SOLKVERVA_RECORD_LENGTH);
+    assert(solkverva_read(bytes, sizeof bytes, NULL, 0) == SOLKVERVA_DONE);
+    assert(solkverva_write(NULL, 0, NULL, 0) == SOLKVERVA_DONE);
+}
+
+int main(void)
+{
+    the_reader_and_the_writer();
+    the_worked_example();
+    each_number();
+    the_whole_area();
+    the_labels();
+    refused_labels();
+    who_put_a_word_there();
+    nothing_lent();
     return 0;
 }

@@ -76,7 +76,7 @@ fn errors_in_a_case_name_the_line() {
     assert_errors(&[
         (
             "ram 0 1\nvalu 1\n",
-            "line 2: found \"valu\", expected settings, lent,",
+            "line 2: found \"valu\", expected settings, owner, lent,",
         ),
         (
             "ram 0 1\n",
@@ -86,7 +86,7 @@ fn errors_in_a_case_name_the_line() {
             "settings address 5 area C",
             "line 1: found \"C\", expected A or B",
         ),
-        (LOUD, "line 1: found \"loud\", expected the name"),
+        (LOUD, "line 1: found \"loud\", expected one of"),
         ("lent ram 9999 reply 33", LENT),
         ("value 2861 tag", TAG),
         ("value +1F", "line 1: found \"+1F\", expected a command of"),

@@ -135,7 +135,7 @@ fn an_objection_says_why() {
     }
 }
 
-/// What `crates/exchange_run` plays: its image, and its pairs of neighbours.
+/// What the script of `crates/cases` plays for the class: its image, and its pairs of neighbours.
 const IMAGE: &str =
     "ram 0100 0F00\nram 0143 0480 0500 0480\nram 0163 0580 0580 0480\nram 0580 5555\n";
 const PAIRS: [(&str, &str, &str); 6] = [
@@ -167,7 +167,7 @@ const PAIRS: [(&str, &str, &str); 6] = [
     ),
 ];
 
-/// What this terminal does with a pair, as `crates/exchange_run` prints it.
+/// What this terminal does with a pair, as `crates/cases` prints it.
 fn printed(title: &str, list: &List) -> String {
     let both = Both::play(&GOOD, list, |_, _, _| ());
     let objection = list.objection(&GOOD, Forgotten::Nothing);
@@ -176,18 +176,30 @@ fn printed(title: &str, list: &List) -> String {
     } else {
         "may not"
     };
-    let mut text = format!("{title}: they {may} change places\n");
+    let mut text = format!("# {title}\n");
     for played in [&both.old, &both.new] {
-        let messages = played.order.iter().map(|&number| {
-            let Record { command, words, .. } = list.messages[number];
+        let records = || {
+            played
+                .order
+                .iter()
+                .map(|&number| (number, list.messages[number]))
+        };
+        let asked = records().map(|(_, Record { command, words, .. })| match words[0] {
+            0 => format!("{command:04X} 0"),
+            word => format!("{command:04X} {word:04X}"),
+        });
+        let messages = records().map(|(number, Record { command, words, .. })| {
             match played.shown[number].reply[..] {
                 [_, sent] => format!("{command:04X} sends {sent:04X}"),
                 _ => format!("{command:04X} brings {:04X}", words[0]),
             }
         });
+        let asked = asked.collect::<Vec<_>>().join(" ");
         let messages = messages.collect::<Vec<_>>().join(", ");
         let word = played.end.ram[0x0480];
-        text += &format!("    {messages}: 0480 ends as {word:04X}\n");
+        text += &format!(
+            "order {asked} 0480: {messages}: 0480 ends as {word:04X}; they {may} change places\n"
+        );
     }
     text
 }
@@ -198,6 +210,7 @@ fn the_pairs_for_the_class_do_what_is_stored() {
         let text = format!("{IMAGE}message {first}\nmessage {second}\nexchange 1\n");
         printed(title, &read_list(&text).unwrap())
     });
-    let file = Path::new(env!("CARGO_MANIFEST_DIR")).join("../crates/exchange_run/stdout");
-    assert_eq!(pairs.concat(), fs::read_to_string(file).unwrap());
+    let file = Path::new(env!("CARGO_MANIFEST_DIR")).join("../crates/cases/stdout");
+    let stored = fs::read_to_string(file).unwrap();
+    assert!(stored.ends_with(&pairs.concat()), "{}", pairs.concat());
 }

@@ -74,7 +74,7 @@ impl Terminal {
         if answer.number != 0 {
             return format!("{}", answer.number);
         }
-        let status = if answer.sent {
+        let status = if answer.answered {
             format!("{:04X}", answer.status)
         } else {
             "none".to_string()
@@ -84,7 +84,7 @@ impl Terminal {
             answer.block_status,
             answer.pointer_before,
             answer.pointer_after,
-            answer.data_words,
+            answer.sent,
             answer.interrupt
         )
     }

@@ -1,11 +1,10 @@
 //! Tests of the whole library, one file per subject.
 
 mod area;
-mod changes;
 mod compare;
 mod exchange;
-mod guide;
 mod helpers;
+mod label;
 mod makers;
 mod message;
 mod planted;
@@ -17,3 +16,4 @@ mod samples;
 mod spread;
 mod text;
 mod trace;
+mod who;

@@ -182,7 +182,7 @@ fn faults_and_their_block_status() {
         let answer = terminal.run(&heard(0x2864, count, flags));
         assert_eq!(answer.block_status, block_status, "{count} {flags}");
         let faulty = block_status & 0x1000 != 0;
-        assert_eq!(answer.sent, !faulty);
+        assert_eq!(answer.answered, !faulty);
         assert_eq!(answer.status, if faulty { 0x2C00 } else { 0x2800 });
         assert_eq!(answer.interrupt, if faulty { 0x0013 } else { 0x0003 });
     }
@@ -201,7 +201,7 @@ fn no_more_words_are_stored_than_asked_for() {
 
 #[test]
 fn a_transmit_expects_no_words() {
-    for (count, flags, block_status, data_words) in [
+    for (count, flags, block_status, sent) in [
         (0, 0, 0x8000, 4),
         (1, 0, 0x9420, 0),
         (33, 0, 0x9420, 0),
@@ -210,8 +210,8 @@ fn a_transmit_expects_no_words() {
         let mut terminal = Terminal::new(Settings::TRACE, &[(0x0163, 0x0400)]);
         let answer = terminal.run(&heard(0x2C64, count, flags));
         assert_eq!(answer.block_status, block_status);
-        assert_eq!(answer.data_words, data_words);
-        assert_eq!(answer.sent, data_words > 0);
+        assert_eq!(answer.sent, sent);
+        assert_eq!(answer.answered, sent > 0);
     }
 }
 
@@ -240,10 +240,10 @@ fn a_refused_transmit_answers_with_status_only() {
         let mut terminal = Terminal::new(Settings::TRACE, &[(0x0163, 0x047E), (0x01A3, 0x0400)]);
         terminal.ram[address] = 0xFFFF;
         let answer = terminal.run(&good(0x2C64));
-        assert!(answer.sent);
+        assert!(answer.answered);
         assert_eq!(answer.status, status);
         assert_eq!(answer.block_status, block_status);
-        assert_eq!(answer.data_words, 0);
+        assert_eq!(answer.sent, 0);
         assert_eq!(answer.pointer_after, 0x047E);
         assert_eq!(terminal.reply[..2], [status, UNTOUCHED]);
     }
@@ -317,7 +317,7 @@ fn broadcast_has_its_own_illegal_and_busy_bits() {
     let answer = terminal.run(&good(0xF864));
     assert_eq!(answer.status, 0x2C18);
     assert_eq!(answer.block_status, 0x8040);
-    assert!(!answer.sent);
+    assert!(!answer.answered);
 }
 
 #[test]
@@ -369,7 +369,7 @@ fn busy_always_holds_for_every_command() {
     assert_eq!(terminal.run(&good(0x2864)).status, 0x2808);
     assert_eq!(terminal.run(&good(0xF864)).status, 0x2818);
     let answer = terminal.run(&good(0x2C64));
-    assert_eq!((answer.status, answer.data_words), (0x2808, 0));
+    assert_eq!((answer.status, answer.sent), (0x2808, 0));
 }
 
 #[test]

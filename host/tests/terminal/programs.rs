@@ -7,7 +7,6 @@ use std::thread;
 use crate::trace::{example_input, EXAMPLE_OUTPUT};
 
 pub const TRACE: &str = env!("CARGO_BIN_EXE_trace_rust");
-const TEXT: &str = env!("CARGO_BIN_EXE_trace_text");
 pub const COMPARE_TRACES: &str = env!("CARGO_BIN_EXE_compare_traces");
 
 pub fn run(program: &str, arguments: &[&str], input: &[u8]) -> Output {
@@ -34,44 +33,6 @@ fn the_trace_program_prints_the_example() {
     assert!(output.status.success());
     assert_eq!(String::from_utf8(output.stdout).unwrap(), EXAMPLE_OUTPUT);
     assert!(output.stderr.is_empty());
-}
-
-#[test]
-fn text_goes_both_ways() {
-    let binary = example_input();
-    let text = run(TEXT, &["unpack"], &binary);
-    assert!(text.status.success());
-    let back = run(TEXT, &["pack"], &text.stdout);
-    assert!(back.status.success());
-    assert_eq!(back.stdout, binary);
-}
-
-#[test]
-fn text_comes_from_a_file_too() {
-    let name = format!("{}/example.txt", env!("CARGO_TARGET_TMPDIR"));
-    std::fs::write(&name, "image 3\n").unwrap();
-    let output = run(TEXT, &["pack", &name], &[]);
-    assert!(output.status.success());
-    assert_eq!(output.stdout, [0, 0, 0]);
-}
-
-#[test]
-fn errors_end_with_status_1() {
-    let missing = "no such file";
-    let cases: [(&[&str], &str); 5] = [
-        (&["pack"], "trace_text: line 2: found \"rom\", expected"),
-        (&["pack", missing], "trace_text: no such file: "),
-        (&[], "trace_text: usage: "),
-        (&["print"], "trace_text: usage: "),
-        (&["pack", "a", "b"], "trace_text: usage: "),
-    ];
-    for (arguments, message) in cases {
-        let output = run(TEXT, arguments, b"ram 0 1\nrom 0 1\n");
-        assert_eq!(output.status.code(), Some(1));
-        assert!(output.stdout.is_empty());
-        let printed = String::from_utf8(output.stderr).unwrap();
-        assert!(printed.starts_with(message), "{printed}");
-    }
 }
 
 #[test]

@@ -137,11 +137,11 @@ impl Accepted<'_> {
 
     fn expected_reply(&self) -> Vec<u16> {
         let mut reply = self.before.reply.clone();
-        if self.answer.sent {
+        if self.answer.answered {
             reply[0] = self.answer.status;
         }
         let sent = if self.is_transmit() { self.moved() } else { 0 };
-        assert_eq!(usize::from(self.answer.data_words), sent);
+        assert_eq!(usize::from(self.answer.sent), sent);
         let mut place = usize::from(self.answer.pointer_before);
         for word in &mut reply[1..1 + sent] {
             *word = self.before.ram[place];
@@ -168,7 +168,7 @@ fn stack_place(settings: &Settings) -> usize {
 }
 
 /// A terminal whose pointers and control words are mostly sound.
-fn random_terminal(random: &mut Random) -> Terminal {
+pub fn random_terminal(random: &mut Random) -> Terminal {
     let settings = random.settings();
     let mut terminal = Terminal::new(settings, &[]);
     terminal.ram.fill_with(|| random.word());

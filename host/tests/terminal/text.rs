@@ -1,8 +1,8 @@
 //! Traces as text: the lines, their errors, and that nothing is lost.
 
 use plain_terminal::terminal::records::{FLAG_BUS_B, FLAG_INVALID_WORD, FLAG_WRONG_SYNC};
-use plain_terminal::terminal::{trace_output, write_record, Record};
-use plain_terminal::text::{pack, unpack};
+use plain_terminal::terminal::{trace_output, write_record, Record, Settings};
+use plain_terminal::text::{pack, read_text, unpack};
 
 use crate::helpers::{heard, record, Random};
 use crate::trace::{image, EXAMPLE_OUTPUT};
@@ -172,11 +172,86 @@ fn short_images() {
 }
 
 #[test]
+fn settings_and_owners() {
+    let text = "settings address 7 area B stack 512 busy-always terminal-flag\n\
+        owner 19 Anna   Karlsson # the elder\nimage 2\nowner 3 Bert\nram 0 1234\n";
+    let read = read_text(text.as_bytes()).unwrap();
+    assert_eq!(read.bytes, [0x12, 0x34]);
+    let expected = Settings {
+        address: 7,
+        area_b: true,
+        stack_size: 512,
+        overwrite_invalid: false,
+        busy_always: true,
+        terminal_flag: true,
+        ..Settings::TRACE
+    };
+    assert_eq!(read.settings, Some(expected));
+    let owners: Vec<_> = read.owners.iter().collect();
+    assert_eq!(owners, [(3, "Bert"), (19, "Anna Karlsson")]);
+    assert_eq!(read.owners.of(4), None);
+
+    let without = read_text(b"ram 0 1234\n").unwrap();
+    assert_eq!(without.settings, None);
+    assert!(without.owners.is_empty());
+}
+
+#[test]
+fn errors_in_settings_and_owners() {
+    const SECOND: &str = "found a second settings line, expected one";
+    const SETTINGS: &str = "settings address 5 area A stack 256";
+    let twice = format!("{SETTINGS}\n{SETTINGS}");
+    assert_errors(
+        2,
+        &[
+            (&twice, SECOND),
+            (
+                "message 2864\nowner 3 Bert",
+                "found owner after a record, expected every owner line before",
+            ),
+            (
+                "message 2864\nsettings address 5 area A stack 256",
+                "found settings after a record",
+            ),
+            (
+                "owner 3 Bert\nowner 3 Anna",
+                "found a second owner of subaddress 3",
+            ),
+        ],
+    );
+    assert_errors(
+        1,
+        &[
+            ("settings 5", "found \"5\", expected address"),
+            (
+                "settings address 5 area A stack 256 loud",
+                "found \"loud\", expected one of overwrite-invalid, ",
+            ),
+            ("owner", "found the end of the line, expected a subaddress"),
+            ("owner 31 Bert", "found \"31\", expected a subaddress"),
+            ("owner 0 Bert", "found subaddress 0, expected"),
+            (
+                "owner 3 # nobody",
+                "found the end of the line, expected the owner's name",
+            ),
+            ("owner 3 Be\u{1b}rt", "found a control character, expected"),
+            (
+                "owner 3 \u{202e}treB",
+                "found a control character, expected",
+            ),
+        ],
+    );
+}
+
+#[test]
 fn errors_name_the_line() {
     assert_eq!(
         error("ram 0143 047E\n# fine\nramm 0163 0500"),
-        "line 3: found \"ramm\", expected image, ram, message or raw"
+        "line 3: found \"ramm\", expected settings, owner, image, ram, message or raw"
     );
+    let long = format!("\u{1b}{}", "x".repeat(60));
+    let shown = format!("line 1: found \"\\u{{1b}}{}\"..., expected", "x".repeat(39));
+    assert!(error(&long).starts_with(&shown), "{}", error(&long));
     let not_text = pack(b"ram 0143 047E\nram \xFF").unwrap_err();
     assert_eq!(not_text.line, 2);
     assert_eq!(not_text.found, "bytes that are not text");

@@ -1,6 +1,6 @@
 //! The trace program's output, whole and streamed.
 
-use std::io::{self, Read};
+use std::io::{self, Read, Write};
 
 use plain_terminal::terminal::trace::TraceView;
 use plain_terminal::terminal::{stream_trace, trace_output, write_record};
@@ -38,10 +38,17 @@ pub fn image(words: &[(usize, u16)]) -> Vec<u8> {
 
 fn output_of(mut input: &[u8]) -> String {
     let whole = trace_output(input);
-    let mut streamed = Vec::new();
-    stream_trace(&mut input, &mut streamed).unwrap();
-    assert_eq!(whole, streamed);
+    let (streamed, told) = streamed(&mut input);
+    assert_eq!((&whole, ""), (&streamed, told.as_str()));
     String::from_utf8(whole).unwrap()
+}
+
+/// What streaming prints, and what it tells on standard error.
+fn streamed(input: &mut dyn Read) -> (Vec<u8>, String) {
+    let (mut streamed, mut told) = (Vec::new(), Vec::new());
+    let done = stream_trace(input, &mut streamed, &mut told);
+    assert_eq!(done, told.is_empty());
+    (streamed, String::from_utf8(told).unwrap())
 }
 
 #[test]
@@ -145,6 +152,71 @@ impl Read for Trickle<'_> {
     }
 }
 
+/// Gives its bytes and then fails.
+struct Broken<'a>(&'a [u8]);
+
+impl Read for Broken<'_> {
+    fn read(&mut self, buffer: &mut [u8]) -> io::Result<usize> {
+        match self.0.read(buffer)? {
+            0 => Err(io::ErrorKind::Other.into()),
+            read => Ok(read),
+        }
+    }
+}
+
+/// Takes nothing.
+struct Full;
+
+impl Write for Full {
+    fn write(&mut self, _: &[u8]) -> io::Result<usize> {
+        Err(io::ErrorKind::Other.into())
+    }
+
+    fn flush(&mut self) -> io::Result<()> {
+        Ok(())
+    }
+}
+
+#[test]
+fn no_end_line_follows_a_failed_read() {
+    let input = example_input();
+    let lines: Vec<&str> = EXAMPLE_OUTPUT.split_inclusive('\n').collect();
+    for (length, records) in [
+        (0, 0),
+        (8191, 0),
+        (8192, 0),
+        (8271, 0),
+        (8272, 1),
+        (8432, 3),
+    ] {
+        let (printed, told) = streamed(&mut Broken(&input[..length]));
+        assert_eq!(
+            String::from_utf8(printed).unwrap(),
+            lines[..records].concat()
+        );
+        assert_eq!(told, "reading failed\n");
+    }
+}
+
+#[test]
+fn a_failed_write_is_told_once() {
+    let input = example_input();
+    let told = |input: &mut dyn Read| {
+        let mut told = Vec::new();
+        assert!(!stream_trace(input, &mut Full, &mut told));
+        String::from_utf8(told).unwrap()
+    };
+    assert_eq!(told(&mut &input[..]), "writing failed\n");
+    assert_eq!(told(&mut &input[..100]), "writing failed\n");
+    assert_eq!(
+        told(&mut Broken(&input)),
+        "reading failed\nwriting failed\n"
+    );
+    assert_eq!(told(&mut Broken(&input[..100])), "reading failed\n");
+    // With nobody to tell it still ends.
+    assert!(!stream_trace(&mut &input[..], &mut Full, &mut Full));
+}
+
 /// Around the number of records that streaming reads at a time.
 #[test]
 fn streaming_does_not_show_where_its_buffer_ends() {
@@ -170,9 +242,9 @@ fn streaming_does_not_show_where_its_buffer_ends() {
             bytes: &input,
             random: Random::new(count as u64),
         };
-        let mut streamed = Vec::new();
-        stream_trace(&mut trickle, &mut streamed).unwrap();
+        let (streamed, told) = streamed(&mut trickle);
         assert_eq!(String::from_utf8(streamed).unwrap(), expected);
+        assert_eq!(told, "");
     }
 }
 

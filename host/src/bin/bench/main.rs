@@ -15,7 +15,8 @@ use plain_terminal::clock::Clock;
 use plain_terminal::engine::boundary as proved;
 use plain_terminal::spread::Spread;
 use plain_terminal::terminal::boundary::{
-    self as plain, settings_words, ANSWER_WORDS, REMEMBERED_WORDS, SETTINGS_WORDS, VALUE_WORDS,
+    self as plain, settings_words, ANSWER_WORDS, COUNTS_WORDS, LISTING_WORDS, PAIRS_WORDS,
+    REMEMBERED_WORDS, SETTINGS_WORDS, UNSOUND_WORDS, VALUE_WORDS,
 };
 use plain_terminal::terminal::message::REPLY_WORDS;
 use plain_terminal::terminal::records::RECORD_BYTES;
@@ -44,9 +45,11 @@ fn usage() -> ExitCode {
 
 /// One side's functions over slices.
 struct Side {
-    message: fn(&mut [u16], &mut [u16], &[u16], &mut [u16], &[u8], &mut [u16]),
-    message_value: fn(&mut [u16], &mut [u16], &[u16], &mut [u16], &[u16], &mut [u16]),
+    message: fn(&mut [u16], &mut [u16], &[u16], &mut [u16], &[u8], &mut [u16]) -> u16,
+    message_value: fn(&mut [u16], &mut [u16], &[u16], &mut [u16], &[u16], &mut [u16]) -> u16,
     check_area: fn(&[u16], &[u16]) -> u32,
+    label_cell: fn(&[u16], &[u16], u16, &mut [u16]) -> u16,
+    label_area: fn(&[u16], &[u16], &mut [u16], &mut [u16], &mut [u16]) -> u16,
     read: fn(&[u8], &mut [u16]) -> u16,
     write: fn(&[u16], &mut [u8]) -> u16,
 }
@@ -55,6 +58,8 @@ const PLAIN: Side = Side {
     message: plain::message,
     message_value: plain::message_value,
     check_area: plain::check_area,
+    label_cell: plain::label_cell,
+    label_area: plain::label_area,
     read: plain::read,
     write: plain::write,
 };
@@ -63,6 +68,8 @@ const PROVED: Side = Side {
     message: proved::message,
     message_value: proved::message_value,
     check_area: proved::check_area,
+    label_cell: proved::label_cell,
+    label_area: proved::label_area,
     read: proved::read,
     write: proved::write,
 };
@@ -125,6 +132,10 @@ struct Lent {
     answer: [u16; ANSWER_WORDS],
     value: [u16; VALUE_WORDS],
     bytes: [u8; RECORD_BYTES],
+    listing: [u16; LISTING_WORDS],
+    counts: [u16; COUNTS_WORDS],
+    unsound: [u16; UNSOUND_WORDS],
+    pairs: [u16; PAIRS_WORDS],
 }
 
 impl Lent {
@@ -137,6 +148,10 @@ impl Lent {
             answer: [0; ANSWER_WORDS],
             value: [0; VALUE_WORDS],
             bytes: [0; RECORD_BYTES],
+            listing: [0; LISTING_WORDS],
+            counts: [0; COUNTS_WORDS],
+            unsound: [0; UNSOUND_WORDS],
+            pairs: [0; PAIRS_WORDS],
         }
     }
 
@@ -151,17 +166,29 @@ impl Lent {
             answer,
             value,
             bytes,
+            listing,
+            counts,
+            unsound,
+            pairs,
         } = self;
         let (number, last) = match work {
             Work::Bytes(bytes) => {
-                (side.message)(ram, reply, settings, remembered, bytes, answer);
-                (answer[0].into(), answer[8])
+                let number = (side.message)(ram, reply, settings, remembered, bytes, answer);
+                (number.into(), answer[8])
             }
             Work::Value(value) => {
-                (side.message_value)(ram, reply, settings, remembered, value, answer);
-                (answer[0].into(), answer[8])
+                let number = (side.message_value)(ram, reply, settings, remembered, value, answer);
+                (number.into(), answer[8])
             }
             Work::Area => ((side.check_area)(ram, settings), 0),
+            Work::LabelCell(cell) => {
+                let number = (side.label_cell)(ram, settings, *cell, listing);
+                (number.into(), listing[0])
+            }
+            Work::LabelArea => {
+                let number = (side.label_area)(ram, settings, counts, unsound, pairs);
+                (number.into(), counts[1])
+            }
             Work::Read(bytes) => ((side.read)(bytes, value).into(), value[35]),
             Work::Write(value) => ((side.write)(value, bytes).into(), bytes[79].into()),
         };

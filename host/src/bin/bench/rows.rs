@@ -17,6 +17,8 @@ pub enum Work {
     Bytes(Vec<u8>),
     Value([u16; VALUE_WORDS]),
     Area,
+    LabelCell(u16),
+    LabelArea,
     Read(Vec<u8>),
     Write([u16; VALUE_WORDS]),
 }
@@ -38,6 +40,7 @@ pub fn rows() -> Vec<Row> {
     rows.extend(held_back());
     rows.extend(refused());
     rows.extend(others());
+    rows.extend(labels());
     rows
 }
 
@@ -121,6 +124,34 @@ fn others() -> [Row; 4] {
         row("whole-area check, cell 1 unsound", &[], Work::Area),
         row("read a record of 32 words", &[], read),
         row("write a record of 32 words", &[], write),
+    ]
+}
+
+/// Labels where no two cells share a word, where all do, and with a refusal.
+fn labels() -> [Row; 6] {
+    let apart: Vec<(usize, u16)> = (0x0140..0x0180).zip((0x0400..).step_by(32)).collect();
+    let together: Vec<(usize, u16)> = (0x0140..0x01A0).map(|place| (place, 0x0400)).collect();
+    let separate = Settings {
+        separate_broadcast: true,
+        ..Settings::TRACE
+    };
+    [
+        row("label of a cell, alone", &apart, Work::LabelCell(3)),
+        Row {
+            settings: separate,
+            ..row(
+                "label of a cell, with 89 others",
+                &together,
+                Work::LabelCell(3),
+            )
+        },
+        row("label of a cell, refused with 9", &[], Work::LabelCell(3)),
+        row("label of the area, no pair", &apart, Work::LabelArea),
+        Row {
+            settings: separate,
+            ..row("label of the area, 4005 pairs", &together, Work::LabelArea)
+        },
+        row("label of the area, all cells unsound", &[], Work::LabelArea),
     ]
 }
 

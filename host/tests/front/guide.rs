@@ -1,19 +1,11 @@
-//! The guide for the class shows what is printed.
+//! The guides show what is printed.
 
 use std::fs;
-use std::path::{Path, PathBuf};
 
-use plain_terminal::terminal::trace_output;
-use plain_terminal::text::{pack, trace_with_changes};
-
-use crate::programs::{run, COMPARE_TRACES, TRACE};
-
-fn root() -> PathBuf {
-    Path::new(env!("CARGO_MANIFEST_DIR")).join("..")
-}
+use crate::shell::{read, root, run};
 
 fn guide() -> String {
-    fs::read_to_string(root().join("docs/CLASS.md")).unwrap()
+    read("docs/CLASS.md")
 }
 
 /// The blocks of a document between lines of three backquotes.
@@ -31,20 +23,33 @@ fn blocks(document: &str) -> Vec<String> {
     blocks
 }
 
-/// What a command of the guide prints: `scripts/trace`, with changes or not, or
-/// a test program, whose output is stored beside it.
+/// What the last lines of a test program's script print: from their first line
+/// on, a heading, what is stored.
+fn stored(program: &str, lines: usize) -> String {
+    let read = |file| fs::read_to_string(root().join(format!("crates/{program}/{file}"))).unwrap();
+    let script = read("stdin");
+    let heading = script.lines().rev().nth(lines - 1).unwrap();
+    let output = read("stdout");
+    let from = output.rfind(&format!("{heading}\n")).unwrap();
+    output[from..].into()
+}
+
+/// What a command of the guide prints: that of the program, or of a test
+/// program on the end of its script.
 fn printed(command: &str) -> Option<String> {
     let words: Vec<&str> = command.split(' ').collect();
-    let input = |file| pack(&fs::read(root().join(file)).unwrap()).unwrap();
-    let output = match words[..] {
-        ["$", "scripts/trace", "--changes", file] => trace_with_changes(&input(file)),
-        ["$", "scripts/trace", file] => trace_output(&input(file)),
-        ["$", "scripts/run-program", name] => {
-            fs::read(root().join(format!("crates/{name}/stdout"))).unwrap()
+    match words[..] {
+        ["$", "./solkverva", ..] => {
+            let said = run(&command[2..]);
+            assert_eq!(said.errors, "", "{command}");
+            Some(said.output)
         }
-        _ => return None,
-    };
-    Some(String::from_utf8(output).unwrap())
+        ["$", "tail", "-n", lines, script, "|", "scripts/run-program", name] => {
+            assert_eq!(script, format!("crates/{name}/stdin"));
+            Some(stored(name, lines.parse().unwrap()))
+        }
+        _ => None,
+    }
 }
 
 #[test]
@@ -60,13 +65,13 @@ fn the_commands_print_what_is_shown() {
             commands += 1;
         }
     }
-    assert_eq!(commands, 5);
+    assert_eq!(commands, 10);
 }
 
 #[test]
 fn the_samples_are_those_under_examples() {
     for sample in ["pointer", "owners", "bad"] {
-        let text = fs::read_to_string(root().join(format!("examples/{sample}.txt"))).unwrap();
+        let text = read(&format!("examples/{sample}.txt"));
         assert!(blocks(&guide()).contains(&text), "{sample}");
     }
 }
@@ -74,8 +79,8 @@ fn the_samples_are_those_under_examples() {
 /// The error is planted in the plain side, as the guide says.
 #[test]
 fn a_comparison_prints_what_is_shown() {
-    let arguments = ["--planted", "zero-count-is-none", TRACE];
-    let output = run(COMPARE_TRACES, &arguments, &[]);
-    let printed = String::from_utf8(output.stdout).unwrap();
+    let bin = "host/target/release";
+    let line = format!("{bin}/compare_traces --planted zero-count-is-none {bin}/trace_rust");
+    let printed = run(&line).output;
     assert!(blocks(&guide()).contains(&printed), "{printed}");
 }

@@ -1,0 +1,97 @@
+//! The sides of a comparison of labels: the functions of the header, over
+//! slices, and errors to be planted in them.
+
+use crate::terminal::boundary as plain;
+
+type CellLabel = fn(&[u16], &[u16], u16, &mut [u16]) -> u16;
+type AreaLabel = fn(&[u16], &[u16], &mut [u16], &mut [u16], &mut [u16]) -> u16;
+
+#[derive(Clone, Copy)]
+pub struct LabelSide {
+    pub cell: CellLabel,
+    pub area: AreaLabel,
+}
+
+/// This package's labels.
+pub const PLAIN: LabelSide = LabelSide {
+    cell: plain::label_cell,
+    area: plain::label_area,
+};
+
+/// The proved terminal's.
+#[cfg(feature = "engine")]
+pub const PROVED: LabelSide = LabelSide {
+    cell: crate::engine::boundary::label_cell,
+    area: crate::engine::boundary::label_area,
+};
+
+/// Errors by name: this package's labels, each wrong in one way.
+pub const ERRORS: [(&str, LabelSide); 4] = [
+    (
+        "area-a-always",
+        LabelSide {
+            cell: |ram, settings, cell, listing| {
+                plain::label_cell(ram, &with(settings, AREA, 0), cell, listing)
+            },
+            area: |ram, settings, counts, unsound, pairs| {
+                plain::label_area(ram, &with(settings, AREA, 0), counts, unsound, pairs)
+            },
+        },
+    ),
+    (
+        "broadcast-always",
+        LabelSide {
+            cell: |ram, settings, cell, listing| {
+                plain::label_cell(ram, &with(settings, SEPARATE, 1), cell, listing)
+            },
+            area: |ram, settings, counts, unsound, pairs| {
+                plain::label_area(ram, &with(settings, SEPARATE, 1), counts, unsound, pairs)
+            },
+        },
+    ),
+    (
+        "all-write",
+        LabelSide {
+            cell: |ram, settings, cell, listing| {
+                let number = plain::label_cell(ram, settings, cell, listing);
+                let listed = 2 * listing.first().copied().map_or(0, usize::from);
+                let marks = listing.iter_mut().take(listed + 1).skip(2).step_by(2);
+                marks.for_each(|mark| *mark = 1);
+                number
+            },
+            ..PLAIN
+        },
+    ),
+    (
+        "higher-first",
+        LabelSide {
+            area: |ram, settings, counts, unsound, pairs| {
+                let number = plain::label_area(ram, settings, counts, unsound, pairs);
+                let listed = counts.get(1).copied().map_or(0, usize::from);
+                let pairs = pairs.iter_mut().take(listed);
+                pairs.for_each(|pair| *pair = pair.swap_bytes());
+                number
+            },
+            ..PLAIN
+        },
+    ),
+];
+
+/// Places in the settings.
+const AREA: usize = 1;
+const SEPARATE: usize = 4;
+
+fn with(settings: &[u16], place: usize, word: u16) -> Vec<u16> {
+    let mut settings = settings.to_vec();
+    settings[place] = word;
+    settings
+}
+
+/// The error with this name, or what the names are.
+pub fn planted(name: &str) -> Result<LabelSide, String> {
+    let error = ERRORS.iter().find(|(error, _)| *error == name);
+    error.map(|(_, side)| *side).ok_or_else(|| {
+        let names = ERRORS.map(|(name, _)| name);
+        format!("the errors are {}", names.join(", "))
+    })
+}

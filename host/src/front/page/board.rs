@@ -1,0 +1,218 @@
+//! All that the page tells, after a whole trace.
+
+use std::collections::VecDeque;
+
+use crate::engine;
+use crate::front::explain::why_refused;
+use crate::front::history::{Facts, History};
+use crate::front::names::{cell_number, kind_of, KINDS};
+use crate::front::problem::Problem;
+use crate::front::replay::Replay;
+use crate::front::say;
+use crate::front::source::Source;
+use crate::terminal::cells::Kind;
+use crate::terminal::label::{AreaLabel, Sharer};
+use crate::terminal::{Answer, Settings};
+use crate::text::Owners;
+
+/// Cells are numbered below this.
+const CELLS: usize = 96;
+
+/// How many refused messages are told one by one.
+pub const REFUSED_SHOWN: usize = 16;
+
+/// A message as a cell's section tells it.
+#[derive(Clone, Debug)]
+pub struct Message {
+    pub record: u64,
+    pub facts: Facts,
+    /// Where its words were stored, or sent from.
+    pub places: Vec<usize>,
+}
+
+/// The newest messages of a cell.
+#[derive(Clone, Debug, Default)]
+pub struct Newest {
+    pub any: Option<Message>,
+    /// The newest without fault, and not illegal.
+    pub good: Option<Message>,
+}
+
+/// A refused record.
+pub struct Refused {
+    pub record: u64,
+    pub number: u16,
+    bytes: Vec<u8>,
+}
+
+pub struct Board {
+    pub file: String,
+    pub owners: Owners,
+    pub history: History,
+    newest: Vec<Newest>,
+    /// The last refused records, oldest first.
+    pub refused: VecDeque<Refused>,
+    pub refused_in_all: u64,
+    /// The short tail behind the last record.
+    pub tail: usize,
+    /// The whole-area check: number and lowest unsound cell.
+    pub check: (u16, u16),
+    label: Result<AreaLabel, u16>,
+}
+
+impl Board {
+    /// Plays a whole trace.
+    pub fn read(source: &mut Source) -> Result<Board, Problem> {
+        let image = source.whole_image()?;
+        let settings = source.settings;
+        let mut board = Board {
+            file: source.name.clone(),
+            owners: source.owners.clone(),
+            check: engine::check_area(&image, &settings),
+            label: engine::label_area(&image, &settings),
+            history: History::new(Replay::with_walk(image, settings)),
+            newest: vec![Newest::default(); CELLS],
+            refused: VecDeque::new(),
+            refused_in_all: 0,
+            tail: 0,
+        };
+        while let Some(bytes) = source.next_record()? {
+            board.record(bytes);
+        }
+        board.tail = source.tail();
+        Ok(board)
+    }
+
+    fn record(&mut self, bytes: &[u8]) {
+        match self.history.message(bytes) {
+            (answer, Some((facts, places))) => self.accepted(&answer, facts, places),
+            (answer, None) => self.refused(bytes, answer.number),
+        }
+    }
+
+    fn accepted(&mut self, answer: &Answer, facts: Facts, places: Vec<usize>) {
+        let message = Message {
+            record: self.history.replay.records,
+            facts,
+            places,
+        };
+        let newest = &mut self.newest[usize::from(answer.cell)];
+        if say::is_good(facts.block_status) {
+            newest.good = Some(message.clone());
+        }
+        newest.any = Some(message);
+    }
+
+    fn refused(&mut self, bytes: &[u8], number: u16) {
+        self.refused_in_all += 1;
+        if self.refused.len() == REFUSED_SHOWN {
+            self.refused.pop_front();
+        }
+        self.refused.push_back(Refused {
+            record: self.history.replay.records,
+            number,
+            bytes: bytes.to_vec(),
+        });
+    }
+
+    /// The command of a refused record; none where its layout is broken.
+    pub fn command_of(&self, refused: &Refused) -> Option<u16> {
+        let (number, record) = engine::read_record(&refused.bytes);
+        (number == 0).then(|| record.command)
+    }
+
+    /// Why a record was refused. No message makes anything sound or unsound,
+    /// so the RAM of the end says it too.
+    pub fn why(&self, refused: &Refused) -> String {
+        let Refused { number, bytes, .. } = refused;
+        why_refused(self.ram(), self.settings(), &self.owners, bytes, *number)
+    }
+
+    pub fn settings(&self) -> &Settings {
+        &self.history.replay.settings
+    }
+
+    pub fn ram(&self) -> &[u16] {
+        &self.history.replay.ram
+    }
+
+    pub fn records(&self) -> u64 {
+        self.history.replay.records
+    }
+
+    pub fn newest(&self, cell: u16) -> &Newest {
+        &self.newest[usize::from(cell)]
+    }
+
+    /// The number that keeps every message out, if one does.
+    pub fn refused_area(&self) -> Option<u16> {
+        self.label.as_ref().err().copied()
+    }
+
+    /// Unsound cells, in rising number.
+    pub fn unsound(&self) -> &[u16] {
+        self.label.as_ref().map_or(&[], |label| &label.unsound)
+    }
+
+    /// Pairs of cells that share words.
+    pub fn pairs(&self) -> &[(u16, u16)] {
+        self.label.as_ref().map_or(&[], |label| &label.pairs)
+    }
+
+    /// Who shares a sound cell's window.
+    pub fn sharers(&self, cell: u16) -> Vec<Sharer> {
+        engine::label_cell(self.ram(), self.settings(), cell).unwrap_or_default()
+    }
+
+    /// The cells of a subaddress.
+    pub fn cells_of(&self, subaddress: u16) -> Vec<u16> {
+        let separate = self.settings().separate_broadcast;
+        let kinds = KINDS.into_iter();
+        kinds
+            .filter(|&kind| kind != Kind::Broadcast || separate)
+            .map(|kind| cell_number(kind, subaddress))
+            .collect()
+    }
+
+    /// The owners in the order of their lowest subaddress, each with all of
+    /// his. Without owners, the subaddresses that had a message.
+    pub fn by_owner(&self) -> Vec<(Option<&str>, Vec<u16>)> {
+        if self.owners.is_empty() {
+            let had = |subaddress: &u16| {
+                let cells = self.cells_of(*subaddress);
+                cells.iter().any(|&cell| self.newest(cell).any.is_some())
+            };
+            return vec![(None, (1..=30).filter(had).collect())];
+        }
+        let mut owners: Vec<(Option<&str>, Vec<u16>)> = Vec::new();
+        for (subaddress, name) in self.owners.iter() {
+            match owners.iter_mut().find(|(owner, _)| *owner == Some(name)) {
+                Some((_, subaddresses)) => subaddresses.push(subaddress),
+                None => owners.push((Some(name), vec![subaddress])),
+            }
+        }
+        owners
+    }
+
+    /// For each word of a message that stands no longer, the cell of the
+    /// message that wrote over it.
+    pub fn overwriters(&self, message: &Message) -> Vec<u16> {
+        let origins = message
+            .places
+            .iter()
+            .map(|&it| self.history.replay.origin(it));
+        let others = origins.flatten().filter(|it| it.record != message.record);
+        others.map(|origin| origin.cell).collect()
+    }
+
+    /// Whether two cells have the same owner.
+    pub fn same_owner(&self, a: u16, b: u16) -> bool {
+        let owner = |cell: u16| self.owners.of(cell % 32);
+        owner(a).is_some() && owner(a) == owner(b)
+    }
+
+    /// Whether a cell stores words.
+    pub fn stores(&self, cell: u16) -> bool {
+        kind_of(cell) != Kind::Transmit
+    }
+}

@@ -1,0 +1,108 @@
+//! The last messages: those on the stack, and those that were refused.
+
+use std::io::{self, Write};
+
+use super::board::{Board, REFUSED_SHOWN};
+use super::html::{self, escape};
+use crate::front::names::{addresses, count};
+use crate::front::say;
+use crate::terminal::cells::Stack;
+use crate::terminal::writes::Part;
+
+/// How many entries are told.
+const SHOWN: usize = 16;
+const ENTRY_WORDS: usize = 4;
+
+/// The last entries of the stack that this trace made, oldest first.
+pub fn write_stack(out: &mut dyn Write, board: &Board) -> io::Result<()> {
+    let entries = last_entries(board);
+    writeln!(
+        out,
+        "<section class=\"stack\">\n<h2>The last messages on the stack</h2>"
+    )?;
+    if entries.is_empty() {
+        writeln!(out, "<p>None in this trace.</p>\n</section>")?;
+        return Ok(());
+    }
+    writeln!(
+        out,
+        "<div class=\"wide\"><table>\n<thead><tr><th>Record</th><th>Tag</th><th>Message</th>\
+         <th>How it went</th><th>Words from</th><th>Entry</th></tr></thead>\n<tbody>"
+    )?;
+    for &(record, place) in &entries {
+        write_entry(out, board, record, place)?;
+    }
+    writeln!(out, "</tbody>\n</table></div>\n</section>")
+}
+
+/// Record and place of each entry, oldest first.
+fn last_entries(board: &Board) -> Vec<(u64, usize)> {
+    let Stack { pointer, block } = Stack::read(board.ram(), board.settings());
+    let mut entries = Vec::new();
+    if board.refused_area().is_some() {
+        return entries;
+    }
+    let mut place = usize::from(pointer);
+    while entries.len() < SHOWN.min(block.len() / ENTRY_WORDS) {
+        if place == block.start {
+            place = block.end;
+        }
+        place -= ENTRY_WORDS;
+        match board.history.replay.origin(place) {
+            Some(origin) if origin.part == Part::Stack(1) => entries.push((origin.record, place)),
+            _ => break,
+        }
+    }
+    entries.reverse();
+    entries
+}
+
+fn write_entry(out: &mut dyn Write, board: &Board, record: u64, place: usize) -> io::Result<()> {
+    let words = &board.ram()[place..place + ENTRY_WORDS];
+    let [block_status, tag, pointer, command] = [words[0], words[1], words[2], words[3]];
+    let message = say::command(command, board.settings(), &board.owners);
+    let entry = addresses(&(place..place + ENTRY_WORDS));
+    writeln!(
+        out,
+        "<tr><td>{record}</td><td><code>{tag:04X}</code></td><td>{}</td><td>{}</td>\
+         <td><code>{pointer:04X}</code></td><td><code>{entry}</code></td></tr>",
+        escape(&message),
+        html::went(block_status)
+    )
+}
+
+/// The last messages that were refused, oldest first.
+pub fn write_refused(out: &mut dyn Write, board: &Board) -> io::Result<()> {
+    writeln!(
+        out,
+        "<section class=\"refused\">\n<h2>Refused messages</h2>"
+    )?;
+    if board.refused.is_empty() {
+        writeln!(out, "<p>None.</p>\n</section>")?;
+        return Ok(());
+    }
+    if board.refused_in_all > REFUSED_SHOWN as u64 {
+        let all = count(board.refused_in_all, "message");
+        writeln!(out, "<p>{all} in all; these are the last.</p>")?;
+    }
+    writeln!(
+        out,
+        "<div class=\"wide\"><table>\n<thead><tr><th>Record</th><th>Number</th><th>Message</th>\
+         <th>Why</th></tr></thead>\n<tbody>"
+    )?;
+    for refused in &board.refused {
+        let message = match board.command_of(refused) {
+            Some(command) => say::command(command, board.settings(), &board.owners),
+            None => "not readable".to_string(),
+        };
+        writeln!(
+            out,
+            "<tr><td>{}</td><td>{}</td><td>{}</td><td>{}</td></tr>",
+            refused.record,
+            refused.number,
+            escape(&message),
+            escape(&board.why(refused))
+        )?;
+    }
+    writeln!(out, "</tbody>\n</table></div>\n</section>")
+}

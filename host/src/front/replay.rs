@@ -1,0 +1,110 @@
+//! The proved terminal in the middle of a trace.
+
+use super::names::{kind_of, subaddress_of};
+use crate::engine::{self, Walk};
+use crate::terminal::cells::{Cell, Kind};
+use crate::terminal::message::REPLY_WORDS;
+use crate::terminal::who::Origin;
+use crate::terminal::writes::Part;
+use crate::terminal::{Answer, MessageRef, Remembered, Settings};
+
+pub struct Replay {
+    pub settings: Settings,
+    pub ram: Vec<u16>,
+    pub reply: [u16; REPLY_WORDS],
+    remembered: Remembered,
+    /// Whole records met so far, refused ones too.
+    pub records: u64,
+    /// Who wrote each word, where that is asked for and the settings are good.
+    pub walk: Option<Walk>,
+}
+
+impl Replay {
+    pub fn new(image: Vec<u16>, settings: Settings) -> Replay {
+        Replay {
+            settings,
+            ram: image,
+            reply: [0; REPLY_WORDS],
+            remembered: Remembered::default(),
+            records: 0,
+            walk: None,
+        }
+    }
+
+    /// A replay that also tells who wrote each word.
+    pub fn with_walk(image: Vec<u16>, settings: Settings) -> Replay {
+        let walk = Walk::new(&image, &settings).ok();
+        Replay {
+            walk,
+            ..Replay::new(image, settings)
+        }
+    }
+
+    /// The next record.
+    pub fn message(&mut self, bytes: &[u8]) -> Answer {
+        let (answer, remembered) = engine::carry_out(
+            &mut self.ram,
+            &mut self.reply,
+            &self.settings,
+            self.remembered,
+            MessageRef::Bytes(bytes),
+        );
+        self.remembered = remembered;
+        self.records += 1;
+        if let Some(walk) = &mut self.walk {
+            walk.record(bytes);
+        }
+        answer
+    }
+
+    /// The cell of an accepted message, with the pointer before it. No message
+    /// moves a window or changes a scheme.
+    pub fn cell_of(&self, answer: &Answer) -> Cell {
+        Cell {
+            pointer: answer.pointer_before,
+            ..self.cell(answer.cell)
+        }
+    }
+
+    /// A cell as it stands now.
+    pub fn cell(&self, number: u16) -> Cell {
+        let (kind, subaddress) = (kind_of(number), subaddress_of(number));
+        Cell::read(&self.ram, &self.settings, kind, subaddress)
+    }
+
+    /// Where the data words of the message that was just accepted lie, in
+    /// their order: those that it stored, or else those that it sent.
+    pub fn places(&self, answer: &Answer) -> Vec<usize> {
+        let cell = self.cell_of(answer);
+        let places = from_pointer(&cell);
+        if cell.kind == Kind::Transmit {
+            places.take(answer.sent.into()).collect()
+        } else {
+            let stored = places.zip(1..);
+            let stored = stored.take_while(|&(address, place)| self.just_stored(address, place));
+            stored.map(|(address, _)| address).collect()
+        }
+    }
+
+    /// Who wrote a word of RAM last; none where it is as in the image.
+    pub fn origin(&self, address: usize) -> Option<Origin> {
+        let walk = self.walk.as_ref()?;
+        walk.who(address as u16).ok().flatten()
+    }
+
+    fn just_stored(&self, address: usize, place: u16) -> bool {
+        self.origin(address).map_or(false, |origin| {
+            origin.record == self.records && origin.part == Part::Data(place)
+        })
+    }
+}
+
+/// The places of a whole message from the cell's pointer on, wrapping at the
+/// window's end.
+fn from_pointer(cell: &Cell) -> impl Iterator<Item = usize> {
+    let window = cell.window();
+    let pointer = usize::from(cell.pointer);
+    let length = window.len();
+    let start = window.start;
+    (0..REPLY_WORDS - 1).map(move |place| start + (pointer - start + place) % length)
+}

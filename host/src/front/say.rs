@@ -1,0 +1,199 @@
+//! The terminal's words and numbers in plain language.
+
+use super::names::{count, subaddress_name};
+use crate::terminal::records::{
+    Record, FLAG_BUS_B, FLAG_INVALID_WORD, FLAG_WRONG_SYNC, RECORD_BYTES, TOO_MANY,
+};
+use crate::terminal::words::Command;
+use crate::terminal::Settings;
+use crate::text::Owners;
+
+/// Bits of a word with what they say.
+type Bits = [(u16, &'static str)];
+
+const BLOCK_STATUS: &Bits = &[
+    (0x8000, "message done"),
+    (0x2000, "bus B"),
+    (0x1400, "a fault"),
+    (0x0080, "rolled over"),
+    (0x0040, "illegal"),
+    (0x0020, "wrong number of words"),
+    (0x0010, "wrong sync"),
+    (0x0008, "invalid word"),
+    (0x0001, "wrong contents"),
+];
+
+const STATUS: &Bits = &[
+    (0x0400, "message error"),
+    (0x0100, "service request"),
+    (0x0010, "broadcast heard"),
+    (0x0008, "busy"),
+    (0x0004, "subsystem flag"),
+    (0x0001, "terminal flag"),
+];
+
+const INTERRUPT: &Bits = &[
+    (0x4000, "illegal"),
+    (0x0400, "rolled over"),
+    (0x0040, "stack wrapped"),
+    (0x0010, "a fault"),
+    (0x0004, "end of message asked for"),
+    (0x0003, "message done"),
+];
+
+/// Any fault.
+pub const FAULT: u16 = 0x1000;
+pub const ILLEGAL: u16 = 0x0040;
+const ROLLOVER: u16 = 0x0080;
+
+/// Each bit that is set, with its digits.
+fn bits(word: u16, bits: &Bits) -> Vec<String> {
+    let set = bits.iter().filter(|(bit, _)| word & bit != 0);
+    set.map(|(bit, name)| format!("{name} ({bit:04X})"))
+        .collect()
+}
+
+pub fn block_status(word: u16) -> String {
+    bits(word, BLOCK_STATUS).join(", ")
+}
+
+/// What a block status says beside "done" and "a fault".
+pub fn block_status_details(word: u16) -> String {
+    let details = BLOCK_STATUS.iter().filter(|(bit, _)| bit & 0x9440 == 0);
+    let set = details.filter(|(bit, _)| word & bit != 0);
+    let names: Vec<&str> = set.map(|(_, name)| *name).collect();
+    names.join(", ")
+}
+
+pub fn interrupt(word: u16) -> String {
+    bits(word, INTERRUPT).join(", ")
+}
+
+pub fn status(word: u16) -> String {
+    let mut parts = vec![format!("terminal {}", word >> 11)];
+    parts.extend(bits(word, STATUS));
+    if parts.len() == 1 {
+        parts.push("all well".into());
+    }
+    parts.join(", ")
+}
+
+/// Whether an accepted message was good: no fault, and not illegal.
+pub fn is_good(block_status: u16) -> bool {
+    block_status & (FAULT | ILLEGAL) == 0
+}
+
+/// One word or two for how an accepted message went.
+pub fn verdict(block_status: u16) -> &'static str {
+    match (block_status & FAULT != 0, block_status & ILLEGAL != 0) {
+        (false, false) => "good",
+        (true, false) => "faulty",
+        (false, true) => "illegal",
+        (true, true) => "faulty and illegal",
+    }
+}
+
+pub fn rolled_over(block_status: u16) -> bool {
+    block_status & ROLLOVER != 0
+}
+
+/// What a command asks: `terminal 5 receives 4 words at subaddress 3 (Anna)`.
+pub fn command(word: u16, settings: &Settings, owners: &Owners) -> String {
+    let command = Command(word);
+    let ours = command.address() == settings.address || command.is_broadcast();
+    let who = match command.address() {
+        _ if command.is_broadcast() => "broadcast: every terminal".to_string(),
+        address => format!("terminal {address}"),
+    };
+    let what = match command.subaddress() {
+        0 | 31 => return format!("{who} has a mode command"),
+        subaddress if ours => subaddress_name(owners, subaddress),
+        subaddress => format!("subaddress {subaddress}"),
+    };
+    let words = count(command.word_count().into(), "word");
+    if command.is_transmit() {
+        format!("{who} sends {words} from {what}")
+    } else {
+        format!("{who} receives {words} at {what}")
+    }
+}
+
+/// How a message went on the bus: what was heard, and what was wrong with it.
+pub fn heard(record: &Record, block_status: u16) -> String {
+    let expected = Command(record.command).expected_words();
+    let words = match record.count {
+        TOO_MANY => "more than 32 words".to_string(),
+        number => count(number.into(), "good word"),
+    };
+    let mut wrong = Vec::new();
+    if block_status & 0x0020 != 0 {
+        wrong.push(format!("{words} came and {expected} were expected"));
+    }
+    if record.has_flag(FLAG_WRONG_SYNC) {
+        wrong.push(format!("a wrong sync after {words}"));
+    }
+    if record.has_flag(FLAG_INVALID_WORD) {
+        wrong.push(format!("an invalid word after {words}"));
+    }
+    if block_status & 0x0001 != 0 {
+        wrong.push("nobody can answer a broadcast".into());
+    }
+    if block_status & ILLEGAL != 0 {
+        wrong.push("the illegal table forbids this command".into());
+    }
+    let verdict = verdict(block_status);
+    if wrong.is_empty() {
+        verdict.to_string()
+    } else {
+        format!("{verdict} ({})", wrong.join(" and "))
+    }
+}
+
+pub fn bus(record: &Record) -> char {
+    if record.has_flag(FLAG_BUS_B) {
+        'B'
+    } else {
+        'A'
+    }
+}
+
+/// Why a number refuses, as far as the number says it.
+pub fn refusal(number: u16) -> &'static str {
+    match number {
+        1 => "the RAM is not 4,096 words",
+        2 => "the reply buffer is under 33 words",
+        3 => "the RT address is over 30, or the stack size is none of 256, 512, 1024, 2048",
+        4 => "the record is not 80 bytes",
+        5 => "the record breaks its layout",
+        6 => "not for this terminal",
+        7 => "subaddress 0 or 31: mode commands are not built yet",
+        8 => "the stack is unsound",
+        9 => "the message's cell is unsound",
+        12 => "the address is beyond the RAM",
+        _ => "no reason known",
+    }
+}
+
+/// What breaks the layout of a record.
+pub fn layout_faults(bytes: &[u8]) -> Vec<String> {
+    let mut faults = Vec::new();
+    if bytes.len() != RECORD_BYTES {
+        return faults;
+    }
+    for (name, range) in [("2-3", 2..4), ("8-15", 8..16)] {
+        if bytes[range].iter().any(|&byte| byte != 0) {
+            faults.push(format!("bytes {name} are not zero"));
+        }
+    }
+    if bytes[6] > 7 {
+        faults.push(format!("flags {} have a bit over 4", bytes[6]));
+    }
+    if bytes[7] > 33 {
+        faults.push(format!("count {} is over 33", bytes[7]));
+    }
+    let held = 16 + 2 * usize::from(bytes[7]).min(32);
+    if bytes[held..].iter().any(|&byte| byte != 0) {
+        faults.push(format!("words after the first {} are not zero", bytes[7]));
+    }
+    faults
+}

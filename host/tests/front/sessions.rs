@@ -1,0 +1,110 @@
+//! Sessions: commands with all that they print, stored under sessions/. A line
+//! after `$ ` is a command; what it prints follows, errors after `! `, and its
+//! exit status after `= ` where it is not 0. Lines after `## ` say what is tried.
+//! With STORE_SESSIONS set, what is printed now is stored.
+
+use std::env;
+use std::fs;
+
+use crate::shell::{read, root, run, Said};
+
+const FOLDER: &str = "host/tests/front/sessions";
+
+/// A session's lines, with what its commands print now.
+fn replay(session: &str) -> String {
+    let mut text = String::new();
+    for line in session.lines() {
+        if line.starts_with("## ") {
+            text += &format!("{line}\n");
+        } else if let Some(command) = line.strip_prefix("$ ") {
+            text += &format!("{line}\n{}", shown(&run(command)));
+        }
+    }
+    text
+}
+
+fn shown(said: &Said) -> String {
+    let mut text = said.output.clone();
+    if !text.is_empty() && !text.ends_with('\n') {
+        text += "\n";
+    }
+    for line in said.errors.lines() {
+        text += &format!("! {line}\n");
+    }
+    if said.status != 0 {
+        text += &format!("= {}\n", said.status);
+    }
+    text
+}
+
+fn holds(name: &str) {
+    let path = format!("{FOLDER}/{name}.txt");
+    let stored = read(&path);
+    let now = replay(&stored);
+    if env::var_os("STORE_SESSIONS").is_some() {
+        fs::write(root().join(&path), now).unwrap();
+        return;
+    }
+    for (place, (was, is)) in stored.lines().zip(now.lines()).enumerate() {
+        assert_eq!(was, is, "{path}, line {}", place + 1);
+    }
+    assert_eq!(stored, now, "{path}");
+}
+
+#[test]
+fn run_prints_what_is_stored() {
+    holds("run");
+}
+
+#[test]
+fn check_prints_what_is_stored() {
+    holds("check");
+}
+
+#[test]
+fn label_prints_what_is_stored() {
+    holds("label");
+}
+
+#[test]
+fn who_prints_what_is_stored() {
+    holds("who");
+}
+
+#[test]
+fn page_prints_what_is_stored() {
+    holds("page");
+}
+
+#[test]
+fn conversion_prints_what_is_stored() {
+    holds("convert");
+}
+
+#[test]
+fn help_prints_what_is_stored() {
+    holds("help");
+}
+
+/// Without a settings line, what is printed is what the trace program prints.
+#[test]
+fn samples_print_what_the_trace_program_prints() {
+    let mut samples = 0;
+    for folder in ["examples", "examples/edges"] {
+        for entry in fs::read_dir(root().join(folder)).unwrap() {
+            let name = entry.unwrap().file_name().into_string().unwrap();
+            if let Some(sample) = name.strip_suffix(".out") {
+                let stored = read(&format!("{folder}/{name}"));
+                let text = format!("{folder}/{sample}.txt");
+                let as_text = run(&format!("./solkverva run {text}"));
+                let bytes = format!("./solkverva pack {text} | ./solkverva run --bytes -");
+                for said in [as_text, run(&bytes)] {
+                    assert_eq!(said.output, stored, "{text}");
+                    assert_eq!((said.errors.as_str(), said.status), ("", 0), "{text}");
+                }
+                samples += 1;
+            }
+        }
+    }
+    assert!(samples >= 12, "{samples}");
+}

@@ -1,0 +1,36 @@
+//! Commands as they are typed at the top of the repository.
+
+use std::fs;
+use std::path::{Path, PathBuf};
+use std::process::Command;
+
+pub fn root() -> PathBuf {
+    Path::new(env!("CARGO_MANIFEST_DIR")).join("..")
+}
+
+pub fn read(path: &str) -> String {
+    fs::read_to_string(root().join(path)).unwrap_or_else(|error| panic!("{path}: {error}"))
+}
+
+/// What a command printed, and how it ended.
+#[derive(Debug, PartialEq, Eq)]
+pub struct Said {
+    pub output: String,
+    pub errors: String,
+    pub status: i32,
+}
+
+/// Runs a line of the shell; `$tmp` is a folder for what it writes.
+pub fn run(line: &str) -> Said {
+    let said = Command::new("bash")
+        .args(["-o", "pipefail", "-c", line])
+        .current_dir(root())
+        .env("tmp", env!("CARGO_TARGET_TMPDIR"))
+        .output()
+        .unwrap();
+    Said {
+        output: String::from_utf8(said.stdout).unwrap(),
+        errors: String::from_utf8(said.stderr).unwrap(),
+        status: said.status.code().unwrap_or(-1),
+    }
+}
