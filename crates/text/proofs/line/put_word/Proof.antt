@@ -1,15 +1,11 @@
 -- `put_word` meets its contract.
-use native.Mathlib.Omega.{arith}
 use borrow.Author.Needs.{needs}
-use Rattle.text.proofs.Runs.{put-cons, length-hex}
+use Rattle.text.proofs.Runs.{put-then}
 use Rattle.text.proofs.line.put_word.Statement.{statement}
 use Rattle.text.proofs.line.put_word.Tie as tie
 
-put-byte-requires : tie.Need-put-byte-requires
-put-byte-requires c κs = search needs
-
-add-put-hex : tie.Need-add-put-hex
-add-put-hex c = search needs
+put-one-requires : tie.Need-put-one-requires
+put-one-requires c κs = search needs
 
 put-hex-requires : tie.Need-put-hex-requires
 put-hex-requires c κs = search needs
@@ -18,8 +14,7 @@ same-length : tie.Need-same-length
 same-length c = search needs
 
 returns : tie.Need-returns
-returns c = (put-cons (c .before .before .before .before .before .before .put-byte .ensures) (c .before .before .put-hex .ensures), omega (arith, length-hex (c .before .before .before .before .before .before .before .before .before .args .w)))
+returns c = put-then (c .before .before .before .before .before .before .put-one .ensures) (c .before .before .put-hex .ensures)
 
 pub put-word-spec : {M : Type 1} → statement M
-put-word-spec =
-    tie.close (tie.spec put-byte-requires add-put-hex put-hex-requires same-length returns)
+put-word-spec = tie.close (tie.spec put-one-requires put-hex-requires same-length returns)
