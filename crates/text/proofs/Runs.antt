@@ -95,6 +95,19 @@ pub put-here :
     Put l at xs l₁ p
 put-here h k b e = record { short = h; bytes = b; place = omega (arith, e) }
 
+-- a column: a byte, and text after it
+pub column-here :
+    (n : ℕ) {l l₁ l₂ xs : List ℕ} {at b p : ℕ} →
+    length l < 2 ^ 64 →
+    at + (1 + n) < 2 ^ 64 →
+    length xs ≡ n →
+    l₁ ≡ set l at b →
+    l₂ ≡ sets l₁ (at + 1) xs →
+    p ≡ at + (1 + n) →
+    Put l at (b ∷ xs) l₂ p
+column-here n {l} {l₁} {l₂} {xs} {at} {b} h k long e f p =
+    let both : l₂ ≡ sets l at (b ∷ xs) = rw (← e, ← add-one) f in put-here h (omega arith) both (omega arith)
+
 -- text after text
 pub put-then :
     {l l₁ l₂ xs ys : List ℕ} {at p q : ℕ} → Put l at xs l₁ p → Put l₁ p ys l₂ q → Put l at (xs ++ ys) l₂ q

@@ -1,32 +1,48 @@
 // The program's lines into a lent buffer. Each function answers the place after what it puts there.
 ghost use Rattle.text.specs.Text.{Put, hexText, decimalText, newline};
 ghost use Rattle.text.specs.Line.{column, statusText, startText, threeWords, acceptedLine, refusedLine, lineOf, namedLine, tailLine, endLine, imageLine};
+use crate::text::after;
+use crate::text::places;
+use crate::text::put_byte;
 use crate::text::put_bytes;
 use crate::text::put_decimal;
+use crate::text::put_digits;
 use crate::text::put_hex;
-use crate::text::put_one;
 use message::answer::Answer;
 
 pub fn put_newline(out: &mut [u8], at: usize) -> usize
     ensures { λ r. ⌜ Put (now (out .entry)) at newline (now (out .exit)) r ⌝ }
 {
-    put_one(out, at, 10)
+    if out.len() <= at {
+        return after(at, 1);
+    }
+    put_byte(out, at, 10);
+    at + 1
 }
 
 // A column of a stored word.
 fn put_word(out: &mut [u8], at: usize, w: u16) -> usize
     ensures { λ r. ⌜ Put (now (out .entry)) at (column (hexText w)) (now (out .exit)) r ⌝ }
 {
-    let next = put_one(out, at, 32);
-    put_hex(out, next, w)
+    if out.len() <= at {
+        return after(at, 5);
+    }
+    put_byte(out, at, 32);
+    put_hex(out, at + 1, w);
+    at + 5
 }
 
 // A column of a number.
 pub fn put_number(out: &mut [u8], at: usize, n: u64) -> usize
     ensures { λ r. ⌜ Put (now (out .entry)) at (column (decimalText n)) (now (out .exit)) r ⌝ }
 {
-    let next = put_one(out, at, 32);
-    put_decimal(out, next, n)
+    let k = places(n);
+    if out.len() <= at {
+        return after(at, 1 + k);
+    }
+    put_byte(out, at, 32);
+    put_digits(out, at + 1, k, n);
+    at + (1 + k)
 }
 
 // The status column: the word, or "none" where none was sent.

@@ -1,15 +1,8 @@
 -- `put_hex` meets its contract.
-use native.Mathlib.Omega.{arith}
 use borrow.Author.Needs.{needs}
-use Rattle.text.proofs.Runs.{sets-hex, length-hex, put-out, put-here}
+use Rattle.text.proofs.Runs.{sets-hex}
 use Rattle.text.proofs.text.put_hex.Statement.{statement}
 use Rattle.text.proofs.text.put_hex.Tie as tie
-
-after-requires : tie.Need-after-requires
-after-requires c κs = search needs
-
-returns : tie.Need-returns
-returns c = put-out (omega arith) (c .before .if1 .taken) (rw length-hex (c .after .ensures))
 
 hex-digit-requires : tie.Need-hex-digit-requires
 hex-digit-requires c κs = search needs
@@ -44,20 +37,16 @@ hex-digit-requires-4 c κs = search needs
 put-byte-requires-4 : tie.Need-put-byte-requires-4
 put-byte-requires-4 c κs = search needs
 
-add-result : tie.Need-add-result
-add-result c = search needs
-
 same-length : tie.Need-same-length
 same-length c = search needs
 
-returns-2 : tie.Need-returns-2
-returns-2 c =
+returns : tie.Need-returns
+returns c =
     let fourth = c .before .before in
     let third = fourth .before .before .before .before .before in
     let second = third .before .before .before .before .before in
     let first = second .before .before .before .before .before in
-    put-here (omega arith) (rw length-hex (omega arith))
-    (rw (
+    rw (
       sets-hex,
       fourth .put-byte4 .ensures,
       fourth .before .hex-digit4 .ensures,
@@ -67,15 +56,12 @@ returns-2 c =
       second .before .hex-digit2 .ensures,
       first .put-byte .ensures,
       first .before .hex-digit .ensures,
-    ))
-    (rw length-hex)
+    )
 
 pub put-hex-spec : {M : Type 1} → statement M
 put-hex-spec =
     tie.close
     (tie.spec
-    after-requires
-    returns
     hex-digit-requires
     put-byte-requires
     add-put-byte
@@ -87,6 +73,5 @@ put-hex-spec =
     add-put-byte-3
     hex-digit-requires-4
     put-byte-requires-4
-    add-result
     same-length
-    returns-2)
+    returns)

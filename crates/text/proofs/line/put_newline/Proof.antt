@@ -1,9 +1,9 @@
--- `put_one` meets its contract.
+-- `put_newline` meets its contract.
 use native.Mathlib.Omega.{arith}
 use borrow.Author.Needs.{needs}
 use Rattle.text.proofs.Runs.{put-out, put-here}
-use Rattle.text.proofs.text.put_one.Statement.{statement}
-use Rattle.text.proofs.text.put_one.Tie as tie
+use Rattle.text.proofs.line.put_newline.Statement.{statement}
+use Rattle.text.proofs.line.put_newline.Tie as tie
 
 after-requires : tie.Need-after-requires
 after-requires c κs = search needs
@@ -23,6 +23,6 @@ same-length c = search needs
 returns-2 : tie.Need-returns-2
 returns-2 c = put-here (omega arith) (omega arith) (c .before .before .put-byte .ensures) (omega arith)
 
-pub put-one-spec : {M : Type 1} → statement M
-put-one-spec =
+pub put-newline-spec : {M : Type 1} → statement M
+put-newline-spec =
     tie.close (tie.spec after-requires returns put-byte-requires add-result same-length returns-2)
