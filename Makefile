@@ -8,12 +8,9 @@ export RT_JOBS ?= 4
 demo:
 	@scripts/demo
 
-# Every test. The last step is the gate itself, so its last line, 'N passed, 0 failed', is the last line printed.
+# Every test. The last step is the toolchain's gate, so its last line, 'N passed, 0 failed', is the last line printed.
 test:
-	@scripts/quotations
-	@rt fmt --check
-	@scripts/compare-all
-	@rt ci
+	@scripts/test
 
 # The proved terminal and the proved trace program against plain Rust.
 compare:

@@ -33,7 +33,7 @@ fn link() -> Result<(), String> {
     println!("cargo:rerun-if-changed={}", archive.display());
     if !archive.exists() {
         return Err(format!(
-            "the proved library is missing: {} is not there. Make it with 'rt staticlib boundary' at the top of \
+            "the proved library is missing: {} is not there. Make it with 'scripts/proved library' at the top of \
              the repository, or name its folder in {FOLDER}",
             archive.display()
         ));
@@ -48,7 +48,7 @@ fn archive_folder() -> PathBuf {
         Some(folder) => PathBuf::from(folder),
         None => {
             let package = env::var_os("CARGO_MANIFEST_DIR").unwrap_or_default();
-            Path::new(&package).join("../target/staticlib")
+            Path::new(&package).join("../built/target/staticlib")
         }
     }
 }

@@ -1,5 +1,6 @@
 //! Two terminals side by side on the same inputs, one subject per file.
 
+pub mod asked;
 pub mod case;
 mod classes;
 pub mod coverage;

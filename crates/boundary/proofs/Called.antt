@@ -9,9 +9,9 @@ use Rattle.message.specs.declared.answer.Answer.{Answer}
 use Rattle.message.specs.Heard.{Heard}
 use Rattle.message.specs.Message.{answerOf, step}
 use Rattle.message.proofs.Refusals.{number-told}
-use Rattle.boundary.specs.Over.{over}
-use Rattle.boundary.specs.Setup.{rememberedWords}
-use Rattle.boundary.specs.Answers.{answerWords}
+use Rattle.lent.specs.Over.{over}
+use Rattle.lent.specs.Setup.{rememberedWords}
+use Rattle.lent.specs.Answers.{answerWords}
 use Rattle.boundary.specs.Call.{Lent, lentOf, stateIn, handedBack, callNumber, lentAfter}
 
 pub called :

@@ -6,8 +6,8 @@ use Rattle.words.specs.declared.settings.Settings.{Settings}
 use Rattle.message.specs.Heard.{Heard}
 use Rattle.who.specs.declared.table.Filling.{Filling}
 use Rattle.who.specs.Table.{tablesOf, filledWith}
-use Rattle.boundary.specs.Over.{over}
-use Rattle.boundary.specs.Setup.{rememberedWords}
+use Rattle.lent.specs.Over.{over}
+use Rattle.lent.specs.Setup.{rememberedWords}
 use Rattle.boundary.specs.Origins.{LentTables, lentTablesOf, tablesIn, tablesBack, tablesAfter}
 
 pub filled-in :

@@ -1,6 +1,3 @@
-pub mod Order
-pub mod Room
-pub mod Listed
 pub mod Called
 pub mod Filled
 pub mod Refused

@@ -12,7 +12,8 @@ use Rattle.who.specs.declared.origin.Who.the-variants.{Refused, AsInImage, Writ
 use Rattle.who.specs.Tests.{replayRefusal, whoRefusal}
 use Rattle.who.specs.Replay.{goneOn, refusedAt, asked}
 use Rattle.who.specs.Table.{filledWith}
-use Rattle.boundary.specs.Origins.{numberOf, recordOf, partWords, LentTables, fillingFrom, tablesBack, tablesAfter}
+use Rattle.who.specs.Values.{valuesOf}
+use Rattle.boundary.specs.Origins.{partWords, LentTables, fillingFrom, tablesBack, tablesAfter}
 use Rattle.boundary.proofs.Refused.{remembered-kept}
 
 -- the tables' call: everything keeps its contents
@@ -25,8 +26,9 @@ fill-refused s hs l m =
     rw (ne-eqb (replayRefusal (length (l .ram)) s) 0 m, remembered-kept (l .remembered), set-getD (l .records) 0 0)
 
 -- an answer that is a refusal: no record, no part
-pub not-told : (w : Who) → (numberOf w ≡ 0 → ⊥) → (recordOf w ≡ 0) × (partWords w ≡ replicate 3 0)
-unfolding partWords
+pub not-told :
+    (w : Who) → (valuesOf w .number ≡ 0 → ⊥) → (valuesOf w .last ≡ 0) × (partWords (valuesOf w) ≡ replicate 3 0)
+unfolding valuesOf partWords
 not-told (Refused number) m = (refl, refl)
 not-told AsInImage m = absurd (m refl)
 not-told (Written origin) m = absurd (m refl)

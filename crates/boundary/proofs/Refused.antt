@@ -20,11 +20,11 @@ use Rattle.label.proofs.Refused.{cell-refused, area-refused, room-kept}
 use Rattle.message.specs.Heard.{Heard}
 use Rattle.message.specs.Answer.{refusedWith}
 use Rattle.message.proofs.Refusals.{refused-answer, refused-state}
-use Rattle.boundary.specs.Over.{over}
-use Rattle.boundary.specs.Setup.{rememberedFrom, rememberedWords}
-use Rattle.boundary.specs.Answers.{answerWords}
-use Rattle.boundary.specs.Values.{valueWords}
-use Rattle.boundary.specs.Labels.{sharerWords, listingWords, countWords}
+use Rattle.lent.specs.Over.{over}
+use Rattle.lent.specs.Setup.{rememberedFrom, rememberedWords}
+use Rattle.lent.specs.Answers.{answerWords}
+use Rattle.lent.specs.Values.{valueWords}
+use Rattle.lent.specs.Labels.{sharerWords, listingWords, countWords}
 use Rattle.boundary.specs.Call.{Lent, lentOf, stateIn, handedBack, callNumber, lentAfter}
 
 -- words that are read and put back are as they were

@@ -7,9 +7,9 @@ use Rattle.message.specs.declared.answer.Answer.{Answer}
 use Rattle.message.specs.Heard.{Heard}
 use Rattle.message.specs.Tests.{refusalFor}
 use Rattle.message.specs.Message.{answerOf, step}
-use Rattle.boundary.specs.Over.{over}
-use Rattle.boundary.specs.Setup.{rememberedFrom, rememberedWords}
-use Rattle.boundary.specs.Answers.{answerWords}
+use Rattle.lent.specs.Over.{over}
+use Rattle.lent.specs.Setup.{rememberedFrom, rememberedWords}
+use Rattle.lent.specs.Answers.{answerWords}
 
 -- what is lent to be written
 pub record Lent : Type 0 where

@@ -1,7 +1,3 @@
-pub mod Over
-pub mod Setup
-pub mod Answers
-pub mod Values
-pub mod Labels
+pub mod Check
 pub mod Origins
 pub mod Call

@@ -4,45 +4,15 @@ use mathlib.Core.List.{List, [], _∷_}
 use lib.ListN.{getD}
 use Rattle.words.specs.declared.settings.Settings.{Settings}
 use Rattle.message.specs.Heard.{Heard}
-use Rattle.who.specs.declared.origin.Who.{Who}
-use Rattle.who.specs.declared.origin.Who.the-variants.{Refused, AsInImage, Written}
 use Rattle.who.specs.declared.table.Filling.{Filling}
-use Rattle.who.specs.Values.{partKind, partPlace}
+use Rattle.who.specs.declared.values.Values.{Values}
 use Rattle.who.specs.Table.{Tables, tablesOf, filledWith}
-use Rattle.boundary.specs.Over.{over}
-use Rattle.boundary.specs.Setup.{rememberedFrom, rememberedWords}
-
--- the answer's number: "0 is done."
-abbrev pub numberOf : Who → ℕ
-numberOf (Refused number) = number
-numberOf AsInImage = 0
-numberOf (Written origin) = 0
-
--- "the number of the last record", and 0 where there is none
-abbrev pub recordOf : Who → ℕ
-recordOf (Refused number) = 0
-recordOf AsInImage = 0
-recordOf (Written origin) = origin .number
-
--- 1 a data word, 2 a lookup pointer, 3 a word of the stack, 4 the stack pointer; 0 "as in the image"
-abbrev pub kindOf : Who → ℕ
-kindOf (Refused number) = 0
-kindOf AsInImage = 0
-kindOf (Written origin) = partKind (origin .part)
-
-abbrev pub cellOf : Who → ℕ
-cellOf (Refused number) = 0
-cellOf AsInImage = 0
-cellOf (Written origin) = origin .cell
-
-abbrev pub placeOf : Who → ℕ
-placeOf (Refused number) = 0
-placeOf AsInImage = 0
-placeOf (Written origin) = partPlace (origin .part)
+use Rattle.lent.specs.Over.{over}
+use Rattle.lent.specs.Setup.{rememberedFrom, rememberedWords}
 
 -- three words: what was written, "its cell and its place in the message"
-unfoldable pub partWords : Who → List ℕ
-partWords w = kindOf w ∷ cellOf w ∷ placeOf w ∷ []
+unfoldable pub partWords : Values → List ℕ
+partWords v = v .kind ∷ v .cell ∷ v .place ∷ []
 
 -- where a replay stands: what is remembered, and how many records have gone by
 unfoldable pub fillingFrom : List ℕ → List ℕ → Filling

@@ -6,12 +6,13 @@ ghost use lib.ListN.{length};
 ghost use Rattle.who.specs.Tests.{replayRefusal};
 ghost use Rattle.who.specs.Replay.{heardIn, asked};
 ghost use Rattle.who.specs.Table.{entryAt};
-ghost use Rattle.boundary.specs.Over.{over};
-ghost use Rattle.boundary.specs.Setup.{settingsFrom, rememberedWords};
-ghost use Rattle.boundary.specs.Origins.{numberOf, recordOf, kindOf, cellOf, placeOf, partWords, fillingFrom, lentTablesOf, tablesAfter};
-use crate::setup::put_remembered;
-use crate::setup::remembered_from;
-use crate::setup::settings_from;
+ghost use Rattle.who.specs.Values.{valuesOf};
+ghost use Rattle.lent.specs.Over.{over};
+ghost use Rattle.lent.specs.Setup.{settingsFrom, rememberedWords};
+ghost use Rattle.boundary.specs.Origins.{partWords, fillingFrom, lentTablesOf, tablesAfter};
+use lent::setup::put_remembered;
+use lent::setup::remembered_from;
+use lent::setup::settings_from;
 use memory::ram::put;
 use who::origin::Who;
 use who::question::ask;
@@ -20,82 +21,27 @@ use who::table::entry_at;
 use who::table::fill;
 use who::table::number_at;
 use who::table::put_number;
-use who::values::part_kind;
-use who::values::part_place;
+use who::values::Values;
+use who::values::values_of;
 
-fn number_of(w: Who) -> u16
-    ensures { λ r. ⌜ r ≡ numberOf w ⌝ }
+fn put_part(xs: &mut [u16], v: Values)
+    ensures { λ r. ⌜ now (xs .exit) ≡ over (now (xs .entry)) (partWords v) ⌝ }
 {
-    match w {
-        Who::Refused(number) => number,
-        Who::AsInImage => 0,
-        Who::Written(_) => 0,
-    }
+    put(xs, 2, v.place);
+    put(xs, 1, v.cell);
+    put(xs, 0, v.kind);
 }
 
-fn record_of(w: Who) -> u64
-    ensures { λ r. ⌜ r ≡ recordOf w ⌝ }
-{
-    match w {
-        Who::Refused(_) => 0,
-        Who::AsInImage => 0,
-        Who::Written(origin) => origin.number,
-    }
-}
-
-fn kind_of(w: Who) -> u16
-    ensures { λ r. ⌜ r ≡ kindOf w ⌝ }
-{
-    match w {
-        Who::Refused(_) => 0,
-        Who::AsInImage => 0,
-        Who::Written(origin) => {
-            let part = origin.part;
-            part_kind(part)
-        }
-    }
-}
-
-fn cell_of(w: Who) -> u16
-    ensures { λ r. ⌜ r ≡ cellOf w ⌝ }
-{
-    match w {
-        Who::Refused(_) => 0,
-        Who::AsInImage => 0,
-        Who::Written(origin) => origin.cell,
-    }
-}
-
-fn place_of(w: Who) -> u16
-    ensures { λ r. ⌜ r ≡ placeOf w ⌝ }
-{
-    match w {
-        Who::Refused(_) => 0,
-        Who::AsInImage => 0,
-        Who::Written(origin) => {
-            let part = origin.part;
-            part_place(part)
-        }
-    }
-}
-
-fn put_part(xs: &mut [u16], w: Who)
-    ensures { λ r. ⌜ now (xs .exit) ≡ over (now (xs .entry)) (partWords w) ⌝ }
-{
-    put(xs, 2, place_of(w));
-    put(xs, 1, cell_of(w));
-    put(xs, 0, kind_of(w));
-}
-
-// An answer put over what is lent; the number that refuses is the result.
+// An answer's values put over what is lent; the number that refuses is the result.
 fn tell(last: &mut [u64], part: &mut [u16], w: Who) -> u16
-    ensures number { λ r. ⌜ r ≡ numberOf w ⌝ }
-    ensures last { λ r. ⌜ now (last .exit) ≡ over (now (last .entry)) (recordOf w ∷ []) ⌝ }
-    ensures part { λ r. ⌜ now (part .exit) ≡ over (now (part .entry)) (partWords w) ⌝ }
+    ensures number { λ r. ⌜ r ≡ valuesOf w .number ⌝ }
+    ensures last { λ r. ⌜ now (last .exit) ≡ over (now (last .entry)) (valuesOf w .last ∷ []) ⌝ }
+    ensures part { λ r. ⌜ now (part .exit) ≡ over (now (part .entry)) (partWords (valuesOf w)) ⌝ }
 {
-    put_number(last, 0, record_of(w));
-    put_part(part, w);
-    number_of(w)
+    let v = values_of(w);
+    put_number(last, 0, v.last);
+    put_part(part, v);
+    v.number
 }
 
 fn filling_from(remembered: &[u16], records: &[u64]) -> Filling
@@ -148,9 +94,9 @@ pub extern "C" fn solkverva_who_entry(
     last: &mut [u64],
     part: &mut [u16],
 ) -> u16
-    ensures number { λ r. ⌜ r ≡ numberOf (entryAt (now (numbers .entry)) (now (marks .entry)) address) ⌝ }
-    ensures last { λ r. ⌜ now (last .exit) ≡ over (now (last .entry)) (recordOf (entryAt (now (numbers .entry)) (now (marks .entry)) address) ∷ []) ⌝ }
-    ensures part { λ r. ⌜ now (part .exit) ≡ over (now (part .entry)) (partWords (entryAt (now (numbers .entry)) (now (marks .entry)) address)) ⌝ }
+    ensures number { λ r. ⌜ r ≡ valuesOf (entryAt (now (numbers .entry)) (now (marks .entry)) address) .number ⌝ }
+    ensures last { λ r. ⌜ now (last .exit) ≡ over (now (last .entry)) (valuesOf (entryAt (now (numbers .entry)) (now (marks .entry)) address) .last ∷ []) ⌝ }
+    ensures part { λ r. ⌜ now (part .exit) ≡ over (now (part .entry)) (partWords (valuesOf (entryAt (now (numbers .entry)) (now (marks .entry)) address))) ⌝ }
 {
     let w = entry_at(numbers, marks, address);
     tell(last, part, w)
@@ -166,10 +112,10 @@ pub extern "C" fn solkverva_who(
     last: &mut [u64],
     part: &mut [u16],
 ) -> u16
-    ensures number { λ r. ⌜ r ≡ numberOf (asked (settingsFrom (now (settings .entry))) address (heardIn (now (trace .entry))) (now (ram .entry)) .at .who) ⌝ }
+    ensures number { λ r. ⌜ r ≡ valuesOf (asked (settingsFrom (now (settings .entry))) address (heardIn (now (trace .entry))) (now (ram .entry)) .at .who) .number ⌝ }
     ensures ram { λ r. ⌜ now (ram .exit) ≡ asked (settingsFrom (now (settings .entry))) address (heardIn (now (trace .entry))) (now (ram .entry)) .ram ⌝ }
-    ensures last { λ r. ⌜ now (last .exit) ≡ over (now (last .entry)) (recordOf (asked (settingsFrom (now (settings .entry))) address (heardIn (now (trace .entry))) (now (ram .entry)) .at .who) ∷ []) ⌝ }
-    ensures part { λ r. ⌜ now (part .exit) ≡ over (now (part .entry)) (partWords (asked (settingsFrom (now (settings .entry))) address (heardIn (now (trace .entry))) (now (ram .entry)) .at .who)) ⌝ }
+    ensures last { λ r. ⌜ now (last .exit) ≡ over (now (last .entry)) (valuesOf (asked (settingsFrom (now (settings .entry))) address (heardIn (now (trace .entry))) (now (ram .entry)) .at .who) .last ∷ []) ⌝ }
+    ensures part { λ r. ⌜ now (part .exit) ≡ over (now (part .entry)) (partWords (valuesOf (asked (settingsFrom (now (settings .entry))) address (heardIn (now (trace .entry))) (now (ram .entry)) .at .who))) ⌝ }
 {
     let w = ask(ram, settings_from(settings), address, trace);
     tell(last, part, w)

@@ -40,9 +40,9 @@ use Rattle.view.specs.declared.view.Taken.{Taken}
 use Rattle.view.specs.View.{noneAt, takenAt}
 use Rattle.view.proofs.Views.{taken-none, taken-some}
 use Rattle.message.proofs.FromBytes.{record-number}
-use Rattle.boundary.specs.Over.{over}
-use Rattle.boundary.specs.Answers.{checkWord}
-use Rattle.boundary.specs.Values.{valueWords}
+use Rattle.lent.specs.Over.{over}
+use Rattle.boundary.specs.Check.{checkWord}
+use Rattle.lent.specs.Values.{valueWords}
 use Rattle.boundary.specs.Call.{Lent, lentOf, stateIn, callNumber, lentAfter}
 use Rattle.boundary.proofs.Refused.{message-refused, read-refused, write-refused}
 use Rattle.boundary.proofs.Halves.{upper-half, lower-half}

@@ -8,8 +8,8 @@ use Rattle.label.proofs.whole
 use Rattle.message.proofs.serve
 use Rattle.trace.proofs.walk
 use Rattle.view.proofs.view
-use Rattle.boundary.specs.Setup.{settingsFrom}
-use Rattle.boundary.specs.Values.{valueFrom}
+use Rattle.lent.specs.Setup.{settingsFrom}
+use Rattle.lent.specs.Values.{valueFrom}
 use Rattle.boundary.proofs.calls
 use Rattle.demands.specs.Calls.{fromBytes, fromValue, walked, exportedBytes, exportedValue}
 use Rattle.demands.specs.First.{MessageAnswered, Demand}

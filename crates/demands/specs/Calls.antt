@@ -12,8 +12,8 @@ use Rattle.message.specs.declared.answer.Answer.{Answer}
 use Rattle.message.specs.Heard.{Heard, heardValue, heardBytes}
 use Rattle.message.proofs.serve
 use Rattle.trace.proofs.walk
-use Rattle.boundary.specs.Setup.{settingsFrom}
-use Rattle.boundary.specs.Values.{valueFrom}
+use Rattle.lent.specs.Setup.{settingsFrom}
+use Rattle.lent.specs.Values.{valueFrom}
 use Rattle.boundary.specs.Call.{Lent, lentOf}
 use Rattle.boundary.proofs.calls
 use Rattle.demands.specs.Entry.{Call}

@@ -37,9 +37,9 @@ use Rattle.message.proofs.serve
 use Rattle.trace.proofs.walk
 use Rattle.view.specs.declared.view.Taken.{Taken}
 use Rattle.view.proofs.view
-use Rattle.boundary.specs.Over.{over}
-use Rattle.boundary.specs.Setup.{settingsFrom}
-use Rattle.boundary.specs.Values.{valueFrom}
+use Rattle.lent.specs.Over.{over}
+use Rattle.lent.specs.Setup.{settingsFrom}
+use Rattle.lent.specs.Values.{valueFrom}
 use Rattle.boundary.specs.Call.{stateIn}
 use Rattle.boundary.proofs.calls
 use Rattle.demands.specs.Entry.{Entry}

@@ -26,8 +26,8 @@ use Rattle.carry.specs.Reply.{replyWords}
 use Rattle.message.specs.Message.{planFor}
 use Rattle.message.specs.Answer.{acceptedWith}
 use Rattle.message.specs.Edges.{runCase, cases, expected}
-use Rattle.boundary.specs.Over.{over}
-use Rattle.boundary.specs.Values.{valueFrom, valueWords}
+use Rattle.lent.specs.Over.{over}
+use Rattle.lent.specs.Values.{valueFrom, valueWords}
 use Rattle.boundary.specs.Call.{stateIn, handedBack}
 use Rattle.demands.specs.Calls.{Message, FromBytes, fromBytes, FromValue, fromValue, Read, Write, ReadWritten, WriteRead, Walk, walked, Exported, ExportedBytes, exportedBytes, ExportedValue, exportedValue, ExportedRead, ExportedWrite}
 use Rattle.demands.specs.Walks.{Walks}

@@ -25,30 +25,25 @@ pub const PROVED: LabelSide = LabelSide {
     area: crate::engine::boundary::label_area,
 };
 
+/// This package's labels, always with this word in the settings.
+macro_rules! setting {
+    ($place:expr, $word:expr) => {
+        LabelSide {
+            cell: |ram, settings, cell, listing| {
+                plain::label_cell(ram, &with(settings, $place, $word), cell, listing)
+            },
+            area: |ram, settings, counts, unsound, pairs| {
+                let settings = with(settings, $place, $word);
+                plain::label_area(ram, &settings, counts, unsound, pairs)
+            },
+        }
+    };
+}
+
 /// Errors by name: this package's labels, each wrong in one way.
 pub const ERRORS: [(&str, LabelSide); 4] = [
-    (
-        "area-a-always",
-        LabelSide {
-            cell: |ram, settings, cell, listing| {
-                plain::label_cell(ram, &with(settings, AREA, 0), cell, listing)
-            },
-            area: |ram, settings, counts, unsound, pairs| {
-                plain::label_area(ram, &with(settings, AREA, 0), counts, unsound, pairs)
-            },
-        },
-    ),
-    (
-        "broadcast-always",
-        LabelSide {
-            cell: |ram, settings, cell, listing| {
-                plain::label_cell(ram, &with(settings, SEPARATE, 1), cell, listing)
-            },
-            area: |ram, settings, counts, unsound, pairs| {
-                plain::label_area(ram, &with(settings, SEPARATE, 1), counts, unsound, pairs)
-            },
-        },
-    ),
+    ("area-a-always", setting!(AREA, 0)),
+    ("broadcast-always", setting!(SEPARATE, 1)),
     (
         "all-write",
         LabelSide {
@@ -85,13 +80,4 @@ fn with(settings: &[u16], place: usize, word: u16) -> Vec<u16> {
     let mut settings = settings.to_vec();
     settings[place] = word;
     settings
-}
-
-/// The error with this name, or what the names are.
-pub fn planted(name: &str) -> Result<LabelSide, String> {
-    let error = ERRORS.iter().find(|(error, _)| *error == name);
-    error.map(|(_, side)| *side).ok_or_else(|| {
-        let names = ERRORS.map(|(name, _)| name);
-        format!("the errors are {}", names.join(", "))
-    })
 }

@@ -3,52 +3,50 @@
 use super::{addresses, Asked, Told};
 use crate::terminal::read_record;
 use crate::terminal::records::RECORD_BYTES;
-use crate::terminal::who::{who, Walk};
 
 pub type Side = fn(&Asked) -> Told;
 
-/// This package's answers: every list of writes is walked.
-pub fn plain(asked: &Asked) -> Told {
-    let ask = |&address: &u16| who(&asked.image, &asked.settings, &asked.records, address);
-    let singles = asked.singles.iter().map(ask).collect();
-    match Walk::new(&asked.image, &asked.settings) {
-        Err(number) => refused(asked, number, singles),
-        Ok(mut walk) => {
-            for record in asked.records.chunks_exact(RECORD_BYTES) {
-                walk.record(record);
-            }
-            Told {
-                number: 0,
-                ram: walk.ram().to_vec(),
-                records: walk.records(),
-                every: addresses().map(|address| walk.who(address)).collect(),
-                singles,
+/// A side: its question about one address, its walk, and how the records are
+/// handed to it.
+macro_rules! side {
+    ($module:path, $asked:expr, $walk:ident, $take_in:expr) => {{
+        use $module::{who, Walk};
+        let asked: &Asked = $asked;
+        let ask = |&address: &u16| who(&asked.image, &asked.settings, &asked.records, address);
+        let singles = asked.singles.iter().map(ask).collect();
+        match Walk::new(&asked.image, &asked.settings) {
+            Err(number) => refused(asked, number, singles),
+            Ok(mut $walk) => {
+                $take_in;
+                Told {
+                    number: 0,
+                    ram: $walk.ram().to_vec(),
+                    records: $walk.records(),
+                    every: addresses().map(|address| $walk.who(address)).collect(),
+                    singles,
+                }
             }
         }
-    }
+    }};
+}
+
+/// This package's answers: every list of writes is walked.
+pub fn plain(asked: &Asked) -> Told {
+    side!(crate::terminal::who, asked, walk, {
+        for record in asked.records.chunks_exact(RECORD_BYTES) {
+            walk.record(record);
+        }
+    })
 }
 
 /// The proved terminal's: tables that go on part by part.
 #[cfg(feature = "engine")]
 pub fn proved(asked: &Asked) -> Told {
-    use crate::engine::who::{who, Walk};
-    let ask = |&address: &u16| who(&asked.image, &asked.settings, &asked.records, address);
-    let singles = asked.singles.iter().map(ask).collect();
-    match Walk::new(&asked.image, &asked.settings) {
-        Err(number) => refused(asked, number, singles),
-        Ok(mut walk) => {
-            for part in asked.records.chunks(asked.part_records * RECORD_BYTES) {
-                assert_eq!(walk.go_on(part), 0, "what was taken once is taken again");
-            }
-            Told {
-                number: 0,
-                ram: walk.ram().to_vec(),
-                records: walk.records(),
-                every: addresses().map(|address| walk.who(address)).collect(),
-                singles,
-            }
+    side!(crate::engine::who, asked, walk, {
+        for part in asked.records.chunks(asked.part_records * RECORD_BYTES) {
+            assert_eq!(walk.go_on(part), 0, "what was taken once is taken again");
         }
-    }
+    })
 }
 
 fn refused(asked: &Asked, number: u16, singles: Vec<super::Answer>) -> Told {
@@ -83,12 +81,3 @@ pub const ERRORS: [(&str, Side); 3] = [
         told
     }),
 ];
-
-/// The error with this name, or what the names are.
-pub fn planted(name: &str) -> Result<Side, String> {
-    let error = ERRORS.iter().find(|(error, _)| *error == name);
-    error.map(|(_, side)| *side).ok_or_else(|| {
-        let names = ERRORS.map(|(name, _)| name);
-        format!("the errors are {}", names.join(", "))
-    })
-}

@@ -1,6 +1,6 @@
 -- `solkverva_check_area` meets its contract.
 use borrow.Author.Needs.{needs}
-use Rattle.boundary.specs.Answers.{checkWord}
+use Rattle.boundary.specs.Check.{checkWord}
 use Rattle.boundary.proofs.calls.solkverva_check_area.Statement.{statement}
 use Rattle.boundary.proofs.calls.solkverva_check_area.Tie as tie
 

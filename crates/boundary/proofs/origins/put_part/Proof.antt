@@ -1,24 +1,15 @@
 -- `put_part` meets its contract: three words in a row.
 use borrow.Author.Needs.{needs}
+use Rattle.lent.proofs.Order.{three-back}
 use Rattle.boundary.specs.Origins.{partWords}
-use Rattle.boundary.proofs.Order.{three-back}
 use Rattle.boundary.proofs.origins.put_part.Statement.{statement}
 use Rattle.boundary.proofs.origins.put_part.Tie as tie
-
-place-of-requires : tie.Need-place-of-requires
-place-of-requires c κs = search needs
 
 put-requires : tie.Need-put-requires
 put-requires c κs = search needs
 
-cell-of-requires : tie.Need-cell-of-requires
-cell-of-requires c κs = search needs
-
 put-requires-2 : tie.Need-put-requires-2
 put-requires-2 c κs = search needs
-
-kind-of-requires : tie.Need-kind-of-requires
-kind-of-requires c κs = search needs
 
 put-requires-3 : tie.Need-put-requires-3
 put-requires-3 c κs = search needs
@@ -29,25 +20,7 @@ same-length c = search needs
 returns : tie.Need-returns
 unfolding partWords
 returns c =
-    rw (
-      three-back,
-      c .before .before .put3 .ensures,
-      c .before .before .before .kind-of .ensures,
-      c .before .before .before .before .before .before .before .put2 .ensures,
-      c .before .before .before .before .before .before .before .before .cell-of .ensures,
-      c .before .before .before .before .before .before .before .before .before .before .before .before .put .ensures,
-      c .before .before .before .before .before .before .before .before .before .before .before .before .before .place-of .ensures,
-    )
+    rw (three-back, c .before .before .put3 .ensures, c .before .before .before .before .before .before .put2 .ensures, c .before .before .before .before .before .before .before .before .before .before .put .ensures)
 
 pub put-part-spec : {M : Type 1} → statement M
-put-part-spec =
-    tie.close
-    (tie.spec
-    place-of-requires
-    put-requires
-    cell-of-requires
-    put-requires-2
-    kind-of-requires
-    put-requires-3
-    same-length
-    returns)
+put-part-spec = tie.close (tie.spec put-requires put-requires-2 put-requires-3 same-length returns)

@@ -1,0 +1,4 @@
+pub mod Order
+pub mod Room
+pub mod Listed
+pub mod Determined

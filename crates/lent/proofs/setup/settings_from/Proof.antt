@@ -1,0 +1,77 @@
+-- `settings_from` meets its contract.
+use borrow.Author.Needs.{needs}
+use Rattle.lent.specs.Setup.{settingsFrom}
+use Rattle.lent.proofs.setup.settings_from.Statement.{statement}
+use Rattle.lent.proofs.setup.settings_from.Tie as tie
+
+word-at-requires : tie.Need-word-at-requires
+word-at-requires c κs = search needs
+
+word-at-requires-2 : tie.Need-word-at-requires-2
+word-at-requires-2 c κs = search needs
+
+word-at-requires-3 : tie.Need-word-at-requires-3
+word-at-requires-3 c κs = search needs
+
+word-at-requires-4 : tie.Need-word-at-requires-4
+word-at-requires-4 c κs = search needs
+
+word-at-requires-5 : tie.Need-word-at-requires-5
+word-at-requires-5 c κs = search needs
+
+word-at-requires-6 : tie.Need-word-at-requires-6
+word-at-requires-6 c κs = search needs
+
+word-at-requires-7 : tie.Need-word-at-requires-7
+word-at-requires-7 c κs = search needs
+
+word-at-requires-8 : tie.Need-word-at-requires-8
+word-at-requires-8 c κs = search needs
+
+word-at-requires-9 : tie.Need-word-at-requires-9
+word-at-requires-9 c κs = search needs
+
+word-at-requires-10 : tie.Need-word-at-requires-10
+word-at-requires-10 c κs = search needs
+
+area-from-requires : tie.Need-area-from-requires
+area-from-requires c κs = search needs
+
+word-at-requires-11 : tie.Need-word-at-requires-11
+word-at-requires-11 c κs = search needs
+
+returns : tie.Need-returns
+unfolding settingsFrom
+returns c =
+    rw (
+      c .word-at11 .ensures,
+      c .before .area-from .ensures,
+      c .before .before .word-at10 .ensures,
+      c .before .before .before .word-at9 .ensures,
+      c .before .before .before .before .word-at8 .ensures,
+      c .before .before .before .before .before .word-at7 .ensures,
+      c .before .before .before .before .before .before .word-at6 .ensures,
+      c .before .before .before .before .before .before .before .word-at5 .ensures,
+      c .before .before .before .before .before .before .before .before .word-at4 .ensures,
+      c .before .before .before .before .before .before .before .before .before .word-at3 .ensures,
+      c .before .before .before .before .before .before .before .before .before .before .word-at2 .ensures,
+      c .before .before .before .before .before .before .before .before .before .before .before .word-at .ensures,
+    )
+
+pub settings-from-spec : {M : Type 1} → statement M
+settings-from-spec =
+    tie.close
+    (tie.spec
+    word-at-requires
+    word-at-requires-2
+    word-at-requires-3
+    word-at-requires-4
+    word-at-requires-5
+    word-at-requires-6
+    word-at-requires-7
+    word-at-requires-8
+    word-at-requires-9
+    word-at-requires-10
+    area-from-requires
+    word-at-requires-11
+    returns)

@@ -1,0 +1,5 @@
+pub mod Over
+pub mod Setup
+pub mod Answers
+pub mod Values
+pub mod Labels
