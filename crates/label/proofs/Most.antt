@@ -2,7 +2,7 @@
 use Prim.Native.Nat.{ℕ, zero, suc, _+_, _-_, _%_, _<_, _≤_}
 use native.Mathlib.Nat.{add-zero, add-suc}
 use native.Mathlib.Omega.{arith}
-use mathlib.Core.Path.{_≡_, refl, ap}
+use mathlib.Core.Path.{_≡_, refl}
 use mathlib.Core.Logic.{⊎-elim}
 use mathlib.Core.Bool.{Bool, true, false, not, cond, _&&_, and-true}
 use mathlib.Core.List.{List, [], _∷_}
@@ -15,11 +15,9 @@ use Rattle.cells.specs.Stack.{stackWindow}
 use Rattle.cells.specs.Cell.{soundCell}
 use Rattle.area.specs.Area.{isRead, isUnsound, cellNumbered}
 use Rattle.area.proofs.Listed.{read-listed}
-use Rattle.label.specs.declared.one.CellLabel.{CellLabel}
-use Rattle.label.specs.declared.whole.AreaLabel.{AreaLabel}
 use Rattle.label.specs.Listing.{above, passing, pairsWith, pairsBelow}
 use Rattle.label.specs.Span.{readInVain}
-use Rattle.label.specs.Label.{takesPart, cellsMeet, meetingCells, meetingPairs, unsoundCells, cellAnswer, areaAnswer}
+use Rattle.label.specs.Label.{takesPart, cellsMeet, meetingCells, meetingPairs, unsoundCells}
 use Rattle.label.proofs.Turns.{passing-yes, passing-same, passing-none}
 use Rattle.label.proofs.Meeting.{part-facts, part-below, met-facts}
 
@@ -156,20 +154,17 @@ module _ (ram : List ℕ) (s : Settings) where
 
   -- so there is room for a cell that is to be listed
   pub sharer-fits :
-      (cell other : ℕ) (label : CellLabel) → label ≡ cellAnswer 0 (passing (cellsMeet ram s cell) other) → other < 96 →
-      cellsMeet ram s cell other ≡ true → label .count < 89
-  unfolding meetingCells cellAnswer
-  sharer-fits cell other label e l m =
+      (cell other count : ℕ) → count ≡ 0 + length (passing (cellsMeet ram s cell) other) → other < 96 →
+      cellsMeet ram s cell other ≡ true → count < 89
+  unfolding meetingCells
+  sharer-fits cell other count e l m =
       let room = place-before (cellsMeet ram s cell) other 96 l m in
-      let count = ap (λ (x : CellLabel). x .count) e in
       omega (arith, meeting-most cell)
 
 pub unsound-fits :
-    (s : Settings) (ends : List ℕ) (n pairs : ℕ) (label : AreaLabel) →
-    label ≡ areaAnswer 0 (passing (readInVain s ends) n) pairs → n < 96 → readInVain s ends n ≡ true →
-    label .«unsound_count» < 90
-unfolding areaAnswer readInVain
-unsound-fits s ends n pairs label e l m =
+    (s : Settings) (ends : List ℕ) (n count : ℕ) → count ≡ 0 + length (passing (readInVain s ends) n) → n < 96 →
+    readInVain s ends n ≡ true → count < 90
+unfolding readInVain
+unsound-fits s ends n count e l m =
     let room = place-before (readInVain s ends) n 96 l m in
-    let count = ap (λ (x : AreaLabel). x .«unsound_count») e in
     omega (arith, ninety-most s (readInVain s ends) (λ k. and-left (isRead s k) (eqb (getD ends k 0) 0)))

@@ -22,8 +22,8 @@ use Rattle.area.proofs.Listed.{read-listed}
 use Rattle.label.specs.declared.span.Span.{Span}
 use Rattle.label.specs.Listing.{above, passing, pairsBelow}
 use Rattle.label.specs.Span.{windowNumbered, readAndSound, spanOfWindow, noSpan, spanOf, startsInto, endsInto, spansMeet, spanAt, placesMeet, readInVain, readEnd}
-use Rattle.label.specs.Label.{takesPart, cellsMeet, meetingPairs, unsoundCells}
-use Rattle.label.proofs.Turns.{passing-same, pairs-same, pairs-stay}
+use Rattle.label.specs.Label.{takesPart, cellsMeet, meetingCells, meetingPairs, unsoundCells}
+use Rattle.label.proofs.Turns.{passing-same, passing-stays, pairs-same, pairs-stay}
 use Rattle.label.proofs.Meeting.{TakesPart, part-facts}
 
 -- ---- two spans
@@ -169,6 +169,16 @@ module _ (ram : List ℕ) (s : Settings) where
       rw whole at
       (pairs-stay (cellsMeet ram s) end (96 - end) (λ k l h. rw (past-apart l h, and-false (takesPart ram s k)))
       (λ k l h. rw (past-apart k h)) (96 - end))
+
+  -- so that a listing may stop there
+  pub read-meeting : (cell end : ℕ) → end ≡ readEnd s → passing (cellsMeet ram s cell) end ≡ meetingCells ram s cell
+  unfolding meetingCells cellsMeet
+  read-meeting cell end e =
+      let whole : end + (96 - end) ≡ 96 = omega (arith, end-small) in
+      sym
+      (rw whole at
+      (passing-stays (cellsMeet ram s cell) end (96 - end)
+      (λ k l h. rw (past-apart k (rw e at l), and-false (takesPart ram s cell)))))
 
   -- so the table gives the label's lists
   pub table-pairs :

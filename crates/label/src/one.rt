@@ -1,14 +1,18 @@
 // The label of one cell: every other cell whose window meets its window.
 ghost use mathlib.Core.Path.{_≡_};
 ghost use mathlib.Core.List.{[]};
-ghost use Prim.Native.Nat.{_<_};
-ghost use Rattle.label.specs.Label.{sharerNumbered, meetingCells, cellRefusal, cellAnswer, withSharer, cellLabel};
+ghost use Rattle.cells.specs.Stack.{stackWindow};
+ghost use Rattle.label.specs.Span.{spanOf};
+ghost use Rattle.label.specs.Label.{sharerNumbered, meetingCells, cellAnswer, cellLabel};
 use crate::cell::able_to_write;
 use crate::cell::kind_numbered;
+use crate::cell::read_end;
+use crate::span::Span;
 use crate::span::span_of;
 use crate::span::spans_meet;
 use area::area::ground_refusal;
 use cells::stack::stack_window;
+use windows::window::Window;
 use words::choose::both;
 use words::number::UNSOUND_CELL;
 use words::settings::Settings;
@@ -49,54 +53,45 @@ fn no_sharers(number: u16) -> CellLabel
     }
 }
 
-// One cell more. There are at most 89 in all.
-fn with_sharer(label: CellLabel, number: u16) -> CellLabel
-    requires { ⌜ label .count < 89 ⌝ }
-    ensures { λ r. ⌜ r ≡ withSharer label number ⌝ }
-{
-    let at = label.count as usize;
-    let mut next = label;
-    next.cells[at] = sharer_numbered(number);
-    next.count += 1;
-    next
-}
-
-// The cells whose windows meet that of one cell, each read as its turn comes.
-fn list_sharers(ram: &[u16], s: Settings, cell: u16) -> CellLabel
+// The cells whose windows meet that of one cell, each read as its turn comes. The stack's window and the cell's own span are at hand.
+fn list_sharers(ram: &[u16], s: Settings, stack: Window, own: Span, cell: u16) -> CellLabel
+    requires { ⌜ (stack ≡ stackWindow (now ram) s) × (own ≡ spanOf (now ram) s stack cell) ⌝ }
     ensures { λ r. ⌜ r ≡ cellAnswer 0 (meetingCells (now (ram .entry)) s cell) ⌝ }
 {
-    let stack = stack_window(ram, s);
-    let own = span_of(ram, s, stack, cell);
-    let mut label = no_sharers(0);
+    let end = read_end(s);
+    let mut cells = [Sharer {
+        cell: 0,
+        writes: false,
+    }; 89];
+    let mut count: u16 = 0;
     let mut other: u16 = 0;
-    while other < 96 {
+    while other < end {
         let span = span_of(ram, s, stack, other);
         if both(other != cell, spans_meet(own, span)) {
-            label = with_sharer(label, other);
+            cells[count as usize] = sharer_numbered(other);
+            count += 1;
         }
         other += 1;
     }
-    label
-}
-
-// The first of 1, 3 and 8, then 9 for a cell that takes no part.
-fn cell_refusal(ram: &[u16], s: Settings, cell: u16) -> u16
-    ensures { λ r. ⌜ r ≡ cellRefusal (now (ram .entry)) s cell ⌝ }
-{
-    let number = ground_refusal(ram, s);
-    if number != 0 {
-        return number;
+    CellLabel {
+        number: 0,
+        count,
+        cells,
     }
-    let own = span_of(ram, s, stack_window(ram, s), cell);
-    if own.end == 0 { UNSOUND_CELL } else { 0 }
 }
 
+// Refused with the first of 1, 3 and 8, then with 9 for a cell that takes no part.
 pub fn label_cell(ram: &[u16], s: Settings, cell: u16) -> CellLabel
     ensures { λ r. ⌜ r ≡ cellLabel (now (ram .entry)) s cell ⌝ }
 {
-    let number = cell_refusal(ram, s, cell);
+    let number = ground_refusal(ram, s);
     if number != 0 {
         return no_sharers(number);
     }
-    list_sharers(ram, s, cell)
+    let stack = stack_window(ram, s);
+    let own = span_of(ram, s, stack, cell);
+    if own.end == 0 {
+        return no_sharers(UNSOUND_CELL);
+    }
+    list_sharers(ram, s, stack, own, cell)
 }
