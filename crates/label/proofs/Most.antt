@@ -152,19 +152,14 @@ module _ (ram : List ℕ) (s : Settings) where
       and-both (dataNumber a) (dataNumber b) (part-data a (f .cell-part)) (part-data b (f .other-part))) 96 in
       omega (arith, allPairs)
 
-  -- so there is room for a cell that is to be listed
-  pub sharer-fits :
-      (cell other count : ℕ) → count ≡ 0 + length (passing (cellsMeet ram s cell) other) → other < 96 →
-      cellsMeet ram s cell other ≡ true → count < 89
-  unfolding meetingCells
-  sharer-fits cell other count e l m =
-      let room = place-before (cellsMeet ram s cell) other 96 l m in
-      omega (arith, meeting-most cell)
+-- so there is room for a number that is to be listed
+pub listed-fits :
+    (t : ℕ → Bool) (n end most count : ℕ) → count ≡ 0 + length (passing t n) → length (passing t end) ≤ most → n < end →
+    t n ≡ true → count < most
+listed-fits t n end most count e h l m =
+    let room = place-before t n end l m in
+    omega arith
 
-pub unsound-fits :
-    (s : Settings) (ends : List ℕ) (n count : ℕ) → count ≡ 0 + length (passing (readInVain s ends) n) → n < 96 →
-    readInVain s ends n ≡ true → count < 90
+pub vain-most : (s : Settings) (ends : List ℕ) → length (passing (readInVain s ends) 96) ≤ 90
 unfolding readInVain
-unsound-fits s ends n count e l m =
-    let room = place-before (readInVain s ends) n 96 l m in
-    omega (arith, ninety-most s (readInVain s ends) (λ k. and-left (isRead s k) (eqb (getD ends k 0) 0)))
+vain-most s ends = ninety-most s (readInVain s ends) (λ k. and-left (isRead s k) (eqb (getD ends k 0) 0))

@@ -1,110 +1,35 @@
--- `list_sharers` meets its contract. The loop's invariant: the cells below `other` that meet are listed.
+-- `list_sharers` meets its contract: the table of spans gives the listing.
 use borrow.Author.Needs.{needs}
-use native.Mathlib.Omega.{arith}
-use Prim.Native.Nat.{_+_, _-_, _≤_}
-use mathlib.Core.Path.{_≡_, refl, ap, _∙_}
-use mathlib.Core.Logic.{⊎-elim}
-use lib.ListN.{replicate}
-use Rattle.label.specs.Listing.{passing}
-use Rattle.label.specs.Label.{cellsMeet, sharerNumbered, noSharer, cellAnswer}
-use Rattle.label.proofs.Turns.{Run, run-starts, run-put, run-passed, sharers-told}
-use Rattle.label.proofs.Most.{sharer-fits}
-use Rattle.label.proofs.Spans.{turn-meets, read-meeting}
+use mathlib.Core.Path.{ap, _∙_}
+use Rattle.label.specs.Label.{cellAnswer}
+use Rattle.label.proofs.Meeting.{part-below}
+use Rattle.label.proofs.Most.{meeting-most}
+use Rattle.label.proofs.Spans.{table-meeting}
 use Rattle.label.proofs.one.list_sharers.Statement.{statement}
 use Rattle.label.proofs.one.list_sharers.Tie as tie
 
-abbrev Inv-loop : tie.InvT-loop
-Inv-loop ram s stack own cell end cells₀ count₀ other₀ cells count other =
-    ((other ≤ end) × (count ≤ other)) × Run sharerNumbered (cellsMeet ram s cell) other 0 (replicate 89 noSharer) cells count
+read-spans-requires : tie.Need-read-spans-requires
+read-spans-requires c κs = search needs
 
-abbrev μ-loop : tie.MeasureT-loop
-μ-loop ram s stack own cell end cells₀ count₀ other₀ cells count other = end - other
-
-read-end-requires : tie.Need-read-end-requires Inv-loop μ-loop
+read-end-requires : tie.Need-read-end-requires
 read-end-requires c κs = search needs
 
-loop-holds : tie.Need-loop-holds Inv-loop μ-loop
-unfolding passing
-loop-holds c = ((omega arith, omega arith), run-starts _ _ _ _ _ _ _ refl refl refl)
+list-meeting-requires : tie.Need-list-meeting-requires
+list-meeting-requires c κs =
+    let a = c .before .before .before .before .before .before .before in
+    let read = c .before .before .before .read-spans .ensures in
+    let below = part-below (a .args .ram .now) (a .args .s) (a .args .cell) (a .pre) in
+    let listed = table-meeting _ _ _ _ _ (a .args .cell) (read .0) (read .1) (c .read-end .ensures .0) below in
+    ((below, c .read-end .ensures .1), rw listed (meeting-most (a .args .ram .now) (a .args .s) (a .args .cell)))
 
-span-of-requires : tie.Need-span-of-requires Inv-loop μ-loop
-span-of-requires c κs = search needs
-
-spans-meet-requires : tie.Need-spans-meet-requires Inv-loop μ-loop
-spans-meet-requires c κs = search needs
-
-both-requires : tie.Need-both-requires Inv-loop μ-loop
-both-requires c κs = search needs
-
-sharer-numbered-requires : tie.Need-sharer-numbered-requires Inv-loop μ-loop
-sharer-numbered-requires c κs = search needs
-
-cast-cells : tie.Need-cast-cells Inv-loop μ-loop
-cast-cells c = search needs
-
-mul-cells : tie.Need-mul-cells Inv-loop μ-loop
-mul-cells c = search needs
-
-array-set-from-cells : tie.Need-array-set-from-cells Inv-loop μ-loop
-array-set-from-cells c =
-    let asked = c .before .before in
-    let at = asked .before .before .before .before in
-    let a = at .before .before .before in
-    let meet =
-    turn-meets _ _ _ _ _ _ _ _ _ (a .pre .0) (a .pre .1) (asked .before .before .span-of .ensures)
-    (asked .before .spans-meet .ensures) (asked .both .ensures) in
-    sharer-fits _ _ _ (at .loop .other) _ (at .loop .inv .1 .place) (omega arith) (meet ∙ c .before .if1 .taken)
-
-add-count : tie.Need-add-count Inv-loop μ-loop
-add-count c = search needs
-
-add-other : tie.Need-add-other Inv-loop μ-loop
-add-other c = search needs
-
-loop-less : tie.Need-loop-less Inv-loop μ-loop
-loop-less c = search needs
-
-loop-again : tie.Need-loop-again Inv-loop μ-loop
-loop-again c =
-    let asked = c .before in
-    let at = asked .before .before .before .before in
-    let a = at .before .before .before in
-    let run = at .loop .inv .1 in
-    let meet =
-    turn-meets _ _ _ _ _ _ _ _ _ (a .pre .0) (a .pre .1) (asked .before .before .span-of .ensures)
-    (asked .before .spans-meet .ensures) (asked .both .ensures) in
-    ⊎-elim
-    (λ w.
-    let more : c .if1 .count ≡ at .loop .count + 1 = w .3 in
-    ((omega arith, omega arith), run-put _ _ _ _ _ _ _ run _ _ _ (w .1 .ensures) (w .2) more (meet ∙ w .0 .taken)))
-    (λ w.
-    let same : c .if1 .count ≡ at .loop .count = w .2 in
-    ((omega arith, omega arith), run-passed _ _ _ _ _ _ _ run _ _ (w .1) same (meet ∙ w .0 .left)))
-    (c .if1 .came)
-
-returns : tie.Need-returns Inv-loop μ-loop
+returns : tie.Need-returns
 returns c =
-    let at = c .before in
-    let e : at .loop .other ≡ at .before .read-end .result = omega arith in
-    sharers-told _ _ _ _ (at .loop .inv .1) ∙ ap (cellAnswer 0) (read-meeting _ _ _ _ (e ∙ at .before .read-end .ensures .0))
+    let end = c .before in
+    let a = end .before .before .before .before .before .before .before in
+    let read = end .before .before .before .read-spans .ensures in
+    let below = part-below (a .args .ram .now) (a .args .s) (a .args .cell) (a .pre) in
+    c .list-meeting .ensures
+    ∙ ap (cellAnswer 0) (table-meeting _ _ _ _ _ (a .args .cell) (read .0) (read .1) (end .read-end .ensures .0) below)
 
 pub list-sharers-spec : {M : Type 1} → statement M
-list-sharers-spec =
-    tie.close
-    (tie.spec
-    Inv-loop
-    μ-loop
-    read-end-requires
-    loop-holds
-    span-of-requires
-    spans-meet-requires
-    both-requires
-    sharer-numbered-requires
-    cast-cells
-    mul-cells
-    array-set-from-cells
-    add-count
-    add-other
-    loop-less
-    loop-again
-    returns)
+list-sharers-spec = tie.close (tie.spec read-spans-requires read-end-requires list-meeting-requires returns)

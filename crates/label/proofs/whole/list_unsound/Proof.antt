@@ -8,7 +8,7 @@ use lib.ListN.{replicate}
 use Rattle.label.specs.Listing.{passing}
 use Rattle.label.specs.Span.{readInVain}
 use Rattle.label.proofs.Turns.{Run, itself, run-starts, run-put, run-passed, unsound-told}
-use Rattle.label.proofs.Most.{unsound-fits}
+use Rattle.label.proofs.Most.{listed-fits, vain-most}
 use Rattle.label.proofs.Spans.{turn-vain}
 use Rattle.label.proofs.whole.list_unsound.Statement.{statement}
 use Rattle.label.proofs.whole.list_unsound.Tie as tie
@@ -52,7 +52,8 @@ array-write-unsound c =
     let a = at .before .args in
     let vain =
     turn-vain (a .s) (a .ends .now) (at .loop .number) _ _ (asked .before .before .is-read .ensures) (asked .both .ensures) in
-    unsound-fits (a .s) (a .ends .now) (at .loop .number) _ (at .loop .inv .1 .place) (omega arith) (vain ∙ c .if1 .taken)
+    listed-fits (readInVain (a .s) (a .ends .now)) (at .loop .number) 96 90 _ (at .loop .inv .1 .place) (vain-most _ _) (omega arith)
+    (vain ∙ c .if1 .taken)
 
 add-count : tie.Need-add-count Inv-loop μ-loop
 add-count c = search needs
