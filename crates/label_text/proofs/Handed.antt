@@ -62,13 +62,10 @@ module _ (ram : List ℕ) (s : Settings) where
     pub area-fits : AreaFits label pairs
     unfolding areaLabel areaAnswer pairsInto
     area-fits =
-        let most = pair-count-most ram s in
         let words : length pairs ≡ length room = rw (f, length-sets) in
         let cells : length (label .unsound) ≡ 90 = rw (e, length-sets) in
         record {
-          few-pairs = rw e most;
-          pairs-there = rw e (omega (arith, words));
-          few-unsound = rw e (unsound-count-most ram s);
+          pairs-there = rw e (omega (arith, words, pair-count-most ram s));
           unsound-there = omega (arith, cells, unsound-count-most ram s, ap (λ (l : AreaLabel). l .«unsound_count») e);
         }
 

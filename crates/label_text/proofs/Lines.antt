@@ -1,13 +1,12 @@
 -- Lines one after the other: of two lists, and one line more.
-use Prim.Native.Nat.{ℕ, _+_, _<_}
+use Prim.Native.Nat.{ℕ, _+_, _^_, _<_}
 use native.Mathlib.Numerals.{add-one}
-use native.Mathlib.Omega.{arith}
 use mathlib.Core.Path.{_≡_, refl, sym}
 use mathlib.Core.List.{List, [], _∷_, _++_, flatMap, append-nil, append-assoc}
 use lib.ListN.{length, getD, take}
 use lib.Seq.{take-suc, take-length, length-sets}
 use Rattle.text.specs.Text.{Put}
-use Rattle.text.proofs.Runs.{put-then}
+use Rattle.text.proofs.Runs.{put-none, put-then}
 
 module _ {A : Type 0} (line : A → List ℕ) where
   pub lines-append : (xs ys : List A) → flatMap line (xs ++ ys) ≡ flatMap line xs ++ flatMap line ys
@@ -23,9 +22,9 @@ module _ {A : Type 0} (line : A → List ℕ) where
       rw (add-one, take-suc xs k d h, lines-append (take k xs) (getD xs k d ∷ []), append-nil (line (getD xs k d)))
 
   -- no line yet
-  pub no-lines : (l : List ℕ) (at : ℕ) → Put l at (flatMap line []) l at
+  pub no-lines : (l : List ℕ) (at : ℕ) → length l < 2 ^ 64 → at < 2 ^ 64 → Put l at (flatMap line []) l at
   unfolding flatMap
-  no-lines l at = record { bytes = refl; place = omega arith }
+  no-lines l at h k = put-none h k
 
   -- one line more
   pub put-line :

@@ -1,18 +1,18 @@
 -- The line of unsound cells: none, or the first and the others.
-use Prim.Native.Nat.{ℕ, _-_, _<_}
+use Prim.Native.Nat.{ℕ, _-_, _^_, _<_}
 use native.Mathlib.Omega.{arith}
-use mathlib.Core.Path.{_≡_, refl}
+use mathlib.Core.Path.{_≡_}
 use mathlib.Core.List.{List, [], _∷_, flatMap}
 use lib.ListN.{length, getD, take, drop}
 use lib.Seq.{take-all}
 use Rattle.text.specs.Text.{Put, newline}
-use Rattle.text.proofs.Runs.{put-then}
+use Rattle.text.proofs.Runs.{put-none, put-then}
 use Rattle.label_text.specs.Wording.{cellText, unsoundName, alsoText, unsoundLine}
 
-pub no-cells : (l cells : List ℕ) (at : ℕ) → length cells ≡ 0 → Put l at (unsoundLine cells) l at
+pub no-cells : (l cells : List ℕ) (at : ℕ) → length l < 2 ^ 64 → at < 2 ^ 64 → length cells ≡ 0 → Put l at (unsoundLine cells) l at
 unfolding unsoundLine
-no-cells l [] at e = record { bytes = refl; place = omega arith }
-no-cells l (x ∷ xs) at e = absurd (omega arith)
+no-cells l [] at h k e = put-none h k
+no-cells l (x ∷ xs) at h k e = absurd (omega arith)
 
 pub first-and-others :
     (cells l l₁ l₂ l₃ l₄ : List ℕ) (at p q : ℕ) {r t : ℕ} → 0 < length cells → Put l at unsoundName l₁ p →

@@ -48,11 +48,9 @@ wordLine word = sharerLine (word / 256) (word % 256)
 
 -- ---- the same from what the label's function hands over
 
--- what is counted is there, and not too much for a buffer
+-- what is counted is there
 pub record AreaFits (label : AreaLabel) (pairs : List ℕ) : Type 0 where
-  pub few-pairs : label .pairs ≤ 4005
   pub pairs-there : label .pairs ≤ length pairs
-  pub few-unsound : label .«unsound_count» ≤ 90
   pub unsound-there : label .«unsound_count» ≤ length (label .unsound)
 
 unfoldable pub linesOf : AreaLabel → List ℕ → List ℕ

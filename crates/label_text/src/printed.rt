@@ -1,9 +1,8 @@
 // The label's whole text into a lent buffer, as far as it reaches. Each function answers the place after what it puts there, so
 // that a caller sees what did not fit.
-ghost use Prim.Native.Nat.{_+_, _*_, _≤_, _^_};
 ghost use mathlib.Core.List.{flatMap};
-ghost use lib.ListN.{length, take};
-ghost use Rattle.text.specs.Text.{Put};
+ghost use lib.ListN.{take};
+ghost use Rattle.text.specs.Text.{Put, PutFirst};
 ghost use Rattle.label.specs.Label.{sharerNumbered};
 ghost use Rattle.label_text.specs.Wording.{alsoText, unsoundLine, meetLine};
 ghost use Rattle.label_text.specs.Printed.{wordLine, AreaFits, CellFits, linesOf, cellLinesOf, areaText, oneCellText};
@@ -22,9 +21,7 @@ use words::settings::Settings;
 
 // The lines of pairs, each in one word.
 fn put_pairs(out: &mut [u8], at: usize, pairs: &[u16]) -> usize
-    requires { ⌜ (at ≤ 2 ^ 62) × (length (now pairs) ≤ 4005) ⌝ }
-    ensures text { λ r. ⌜ Put (now (out .entry)) at (flatMap wordLine (now (pairs .entry))) (now (out .exit)) r ⌝ }
-    ensures near { λ r. ⌜ r ≤ at + 86 * 4005 ⌝ }
+    ensures { λ r. ⌜ Put (now (out .entry)) at (flatMap wordLine (now (pairs .entry))) (now (out .exit)) r ⌝ }
 {
     let mut next = at;
     let mut i: usize = 0;
@@ -43,9 +40,7 @@ fn put_pairs(out: &mut [u8], at: usize, pairs: &[u16]) -> usize
 
 // The other cells of the line of unsound cells.
 fn put_others(out: &mut [u8], at: usize, others: &[u16]) -> usize
-    requires { ⌜ (at ≤ 2 ^ 62) × (length (now others) ≤ 90) ⌝ }
-    ensures text { λ r. ⌜ Put (now (out .entry)) at (flatMap alsoText (now (others .entry))) (now (out .exit)) r ⌝ }
-    ensures near { λ r. ⌜ r ≤ at + 32 * 90 ⌝ }
+    ensures { λ r. ⌜ Put (now (out .entry)) at (flatMap alsoText (now (others .entry))) (now (out .exit)) r ⌝ }
 {
     let mut next = at;
     let mut i: usize = 0;
@@ -59,9 +54,7 @@ fn put_others(out: &mut [u8], at: usize, others: &[u16]) -> usize
 
 // The line of unsound cells; nothing where there is none.
 fn put_unsound(out: &mut [u8], at: usize, cells: &[u16]) -> usize
-    requires { ⌜ (at ≤ 2 ^ 61) × (length (now cells) ≤ 90) ⌝ }
-    ensures text { λ r. ⌜ Put (now (out .entry)) at (unsoundLine (now (cells .entry))) (now (out .exit)) r ⌝ }
-    ensures near { λ r. ⌜ r ≤ at + 3000 ⌝ }
+    ensures { λ r. ⌜ Put (now (out .entry)) at (unsoundLine (now (cells .entry))) (now (out .exit)) r ⌝ }
 {
     if cells.len() == 0 {
         return at;
@@ -87,7 +80,7 @@ fn put_area_lines(out: &mut [u8], label: AreaLabel, pairs: &[u16]) -> usize
 
 // The label of the whole area.
 pub fn put_area_text(out: &mut [u8], ram: &[u16], s: Settings) -> usize
-    ensures { λ r. ⌜ Put (now (out .entry)) 0 (areaText (now (ram .entry)) s) (now (out .exit)) r ⌝ }
+    ensures { λ r. ⌜ PutFirst (now (out .entry)) (areaText (now (ram .entry)) s) (now (out .exit)) r ⌝ }
 {
     let mut pairs = [0u16; 4005];
     let label = label_area(ram, s, &mut pairs);
@@ -100,8 +93,7 @@ pub fn put_area_text(out: &mut [u8], ram: &[u16], s: Settings) -> usize
 // The lines of the cells that share a page with one.
 fn put_sharers(out: &mut [u8], cell: u16, label: CellLabel) -> usize
     requires { ⌜ CellFits label ⌝ }
-    ensures text { λ r. ⌜ Put (now (out .entry)) 0 (flatMap (meetLine (sharerNumbered cell)) (take (label .count) (label .cells))) (now (out .exit)) r ⌝ }
-    ensures near { λ r. ⌜ r ≤ 86 * 89 ⌝ }
+    ensures { λ r. ⌜ Put (now (out .entry)) 0 (flatMap (meetLine (sharerNumbered cell)) (take (label .count) (label .cells))) (now (out .exit)) r ⌝ }
 {
     let own = sharer_numbered(cell);
     let mut next: usize = 0;
@@ -125,7 +117,7 @@ fn put_cell_lines(out: &mut [u8], cell: u16, label: CellLabel) -> usize
 
 // The label of one cell.
 pub fn put_cell_text(out: &mut [u8], ram: &[u16], s: Settings, cell: u16) -> usize
-    ensures { λ r. ⌜ Put (now (out .entry)) 0 (oneCellText (now (ram .entry)) s cell) (now (out .exit)) r ⌝ }
+    ensures { λ r. ⌜ PutFirst (now (out .entry)) (oneCellText (now (ram .entry)) s cell) (now (out .exit)) r ⌝ }
 {
     let label = label_cell(ram, s, cell);
     if label.number != 0 {

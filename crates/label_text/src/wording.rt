@@ -1,5 +1,4 @@
 // The label's words and lines into a lent buffer. Each function answers the place after what it puts there.
-ghost use Prim.Native.Nat.{_+_, _≤_, _^_};
 ghost use Rattle.text.specs.Text.{Put};
 ghost use Rattle.label_text.specs.Wording.{kindName, cellText, markText, markedText, meetLine, reasonText, refusedLine};
 use label::cell::kind_numbered;
@@ -13,9 +12,7 @@ use words::number::RAM_LENGTH;
 use words::number::UNSOUND_STACK;
 
 fn put_kind(out: &mut [u8], at: usize, kind: Kind) -> usize
-    requires { ⌜ at ≤ 2 ^ 63 + 256 ⌝ }
-    ensures text { λ r. ⌜ Put (now (out .entry)) at (kindName kind) (now (out .exit)) r ⌝ }
-    ensures near { λ r. ⌜ r ≤ at + 9 ⌝ }
+    ensures { λ r. ⌜ Put (now (out .entry)) at (kindName kind) (now (out .exit)) r ⌝ }
 {
     match kind {
         Kind::Receive => put_bytes(out, at, b"receive"),
@@ -26,18 +23,14 @@ fn put_kind(out: &mut [u8], at: usize, kind: Kind) -> usize
 
 // A cell by its kind and its subaddress.
 pub(crate) fn put_cell(out: &mut [u8], at: usize, number: u16) -> usize
-    requires { ⌜ at ≤ 2 ^ 63 + 256 ⌝ }
-    ensures text { λ r. ⌜ Put (now (out .entry)) at (cellText number) (now (out .exit)) r ⌝ }
-    ensures near { λ r. ⌜ r ≤ at + 30 ⌝ }
+    ensures { λ r. ⌜ Put (now (out .entry)) at (cellText number) (now (out .exit)) r ⌝ }
 {
     let next = put_kind(out, at, kind_numbered(number));
     put_number(out, next, (number % 32) as u64)
 }
 
 fn put_mark(out: &mut [u8], at: usize, writes: bool) -> usize
-    requires { ⌜ at ≤ 2 ^ 63 + 512 ⌝ }
-    ensures text { λ r. ⌜ Put (now (out .entry)) at (markText writes) (now (out .exit)) r ⌝ }
-    ensures near { λ r. ⌜ r ≤ at + 9 ⌝ }
+    ensures { λ r. ⌜ Put (now (out .entry)) at (markText writes) (now (out .exit)) r ⌝ }
 {
     if writes {
         put_bytes(out, at, b" (writes)")
@@ -47,9 +40,7 @@ fn put_mark(out: &mut [u8], at: usize, writes: bool) -> usize
 }
 
 fn put_marked(out: &mut [u8], at: usize, sharer: Sharer) -> usize
-    requires { ⌜ at ≤ 2 ^ 63 + 128 ⌝ }
-    ensures text { λ r. ⌜ Put (now (out .entry)) at (markedText sharer) (now (out .exit)) r ⌝ }
-    ensures near { λ r. ⌜ r ≤ at + 39 ⌝ }
+    ensures { λ r. ⌜ Put (now (out .entry)) at (markedText sharer) (now (out .exit)) r ⌝ }
 {
     let next = put_cell(out, at, sharer.cell);
     put_mark(out, next, sharer.writes)
@@ -57,9 +48,7 @@ fn put_marked(out: &mut [u8], at: usize, sharer: Sharer) -> usize
 
 // The line of two cells whose windows meet.
 pub(crate) fn put_meeting(out: &mut [u8], at: usize, cell: Sharer, other: Sharer) -> usize
-    requires { ⌜ at ≤ 2 ^ 63 ⌝ }
-    ensures text { λ r. ⌜ Put (now (out .entry)) at (meetLine cell other) (now (out .exit)) r ⌝ }
-    ensures near { λ r. ⌜ r ≤ at + 86 ⌝ }
+    ensures { λ r. ⌜ Put (now (out .entry)) at (meetLine cell other) (now (out .exit)) r ⌝ }
 {
     let meets = put_marked(out, at, cell);
     let second = put_bytes(out, meets, b" meets ");
@@ -68,9 +57,7 @@ pub(crate) fn put_meeting(out: &mut [u8], at: usize, cell: Sharer, other: Sharer
 }
 
 fn put_reason(out: &mut [u8], at: usize, number: u16) -> usize
-    requires { ⌜ at ≤ 2 ^ 63 + 256 ⌝ }
-    ensures text { λ r. ⌜ Put (now (out .entry)) at (reasonText number) (now (out .exit)) r ⌝ }
-    ensures near { λ r. ⌜ r ≤ at + 18 ⌝ }
+    ensures { λ r. ⌜ Put (now (out .entry)) at (reasonText number) (now (out .exit)) r ⌝ }
 {
     if number == RAM_LENGTH {
         return put_bytes(out, at, b"wrong RAM length");
@@ -86,7 +73,6 @@ fn put_reason(out: &mut [u8], at: usize, number: u16) -> usize
 
 // The line of a refusal.
 pub(crate) fn put_refused(out: &mut [u8], at: usize, number: u16) -> usize
-    requires { ⌜ at ≤ 2 ^ 63 ⌝ }
     ensures { λ r. ⌜ Put (now (out .entry)) at (refusedLine number) (now (out .exit)) r ⌝ }
 {
     let told = put_bytes(out, at, b"refused");

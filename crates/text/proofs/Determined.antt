@@ -31,7 +31,7 @@ put-newline-settled κs a x y v w p q =
 
 pub put-number-settled : Settled 1 line.put_number.Kinds.ps line.put_number.Kinds.r line.put_number.Reads.Post
 put-number-settled κs a x y v w p q =
-    (determined (p .0 .place) (q .0 .place), λ i. (determined (p .0 .bytes) (q .0 .bytes) i, v .1))
+    (determined (p .place) (q .place), λ i. (determined (p .bytes) (q .bytes) i, v .1))
 
 pub put-named-settled : Settled 2 line.put_named.Kinds.ps line.put_named.Kinds.r line.put_named.Reads.Post
 put-named-settled κs a x y v w p q =

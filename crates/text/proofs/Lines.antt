@@ -1,16 +1,17 @@
 -- How long a line is.
-use Prim.Native.Nat.{ℕ, _≤_}
+use Prim.Native.Nat.{ℕ, _+_, _≤_}
 use native.Mathlib.Omega.{arith}
 use mathlib.Core.Path.{_≡_, refl}
 use mathlib.Core.Logic.{⊎-elim}
 use mathlib.Core.Bool.{Bool, true, false}
+use mathlib.Core.List.{List}
 use lib.ListN.{length, length-append}
 use lib.Dec.{eqb}
 use borrow.Author.Tests.{eqb-true}
 use Rattle.words.proofs.Basics.{yes-or-no}
 use Rattle.message.specs.declared.answer.Answer.{Answer}
 use Rattle.text.specs.Text.{decimalText, digits, placesUpTo}
-use Rattle.text.specs.Line.{statusText, noneText, startText, threeWords, acceptedLine, refusedLine, lineOf, namedLine, tailLine, endLine}
+use Rattle.text.specs.Line.{statusText, noneText, startText, threeWords, acceptedLine, refusedLine, lineOf, namedLine, tailName, endName, tailLine, endLine}
 use Rattle.text.proofs.Runs.{length-hex}
 use Rattle.text.proofs.Numerals.{decimal-most}
 
@@ -51,14 +52,18 @@ line-most number a =
     (λ (e : eqb (a .number) 0 ≡ false). rw e (refused-most number (a .number)))
     (yes-or-no (eqb (a .number) 0))
 
--- a tail's line is short
+-- a line of a name and a number
+pub named-most : (name : List ℕ) (n : ℕ) → length (namedLine name n) ≤ length name + 22
+unfolding namedLine
+named-most name n = simp length-append (omega (arith, decimal-most n))
+
 pub tail-most : (n : ℕ) → length (tailLine n) ≤ 26
-unfolding tailLine namedLine
+unfolding tailLine
 tail-most n =
     ⊎-elim (λ (e : eqb n 0 ≡ true). rw e (omega arith))
-    (λ (e : eqb n 0 ≡ false). rw e (simp length-append (omega (arith, decimal-most n))))
+    (λ (e : eqb n 0 ≡ false). rw e (named-most tailName n))
     (yes-or-no (eqb n 0))
 
-pub end-most : (n : ℕ) → length (endLine n) ≤ 26
-unfolding endLine namedLine
-end-most n = simp length-append (omega (arith, decimal-most n))
+pub end-most : (n : ℕ) → length (endLine n) ≤ 25
+unfolding endLine
+end-most n = named-most endName n

@@ -1,13 +1,15 @@
 -- Runs of bytes put into a buffer: one after the other, byte by byte, and apart.
-use Prim.Native.Nat.{ℕ, suc, _+_, _/_, _%_, _<_, _≤_}
+use Prim.Native.Nat.{ℕ, suc, _+_, _-_, _/_, _%_, _^_, _<_, _≤_}
 use native.Mathlib.Nat.{add-zero}
 use native.Mathlib.Numerals.{add-one}
 use native.Mathlib.Omega.{arith}
 use mathlib.Core.Path.{_≡_, refl}
+use mathlib.Core.Logic.{⊎-elim}
 use mathlib.Core.List.{List, [], _∷_, _++_}
 use lib.ListN.{length, getD, set, take, length-append}
-use lib.Seq.{sets, take-suc, set-comm, length-take-le}
-use Rattle.text.specs.Text.{hexDigit, hexText, Put}
+use lib.Seq.{sets, take-suc, set-comm, set-out, length-take-le}
+use Rattle.words.proofs.Basics.{lt-or-ge}
+use Rattle.text.specs.Text.{hexDigit, hexText, placeAfter, Put, PutFirst}
 
 -- two runs, the second from where the first ends, are their append
 pub sets-append :
@@ -58,17 +60,64 @@ pub length-hex : (w : ℕ) → length (hexText w) ≡ 4
 unfolding hexText
 length-hex w = refl
 
+-- ---- places
+
+-- a run that begins past the end leaves the buffer
+pub sets-out : (l xs : List ℕ) (at : ℕ) → length l ≤ at → sets l at xs ≡ l
+sets-out l [] at h = refl
+sets-out l (x ∷ xs) at h = rw (set-out l at x h) (sets-out l xs (suc at) (omega arith))
+
+-- the last place stands for those past it: no buffer reaches them
+sets-after : (l ys : List ℕ) (at n : ℕ) → length l < 2 ^ 64 → sets l (placeAfter at n) ys ≡ sets l (at + n) ys
+sets-after l ys at n h =
+    ⊎-elim (λ (k : at + n < 2 ^ 64). let e : placeAfter at n ≡ at + n = omega arith in rw e)
+    (λ (k : 2 ^ 64 ≤ at + n). let e : placeAfter at n ≡ 2 ^ 64 - 1 = omega arith in
+    rw (e, sets-out l ys (2 ^ 64 - 1) (omega arith), sets-out l ys (at + n) (omega arith)))
+    (lt-or-ge (at + n) (2 ^ 64))
+
+-- ---- text put
+
+-- nothing
+pub put-none : {l : List ℕ} {at : ℕ} → length l < 2 ^ 64 → at < 2 ^ 64 → Put l at [] l at
+put-none h k = record { short = h; bytes = refl; place = omega arith }
+
+-- text that begins past the buffer's end
+pub put-out : {l xs : List ℕ} {at p : ℕ} → length l < 2 ^ 64 → length l ≤ at → p ≡ placeAfter at (length xs) → Put l at xs l p
+put-out {l} {xs} {at} h k e = record { short = h; bytes = rw (sets-out l xs at k); place = e }
+
+-- text whose place after it can be counted
+pub put-here :
+    {l l₁ xs : List ℕ} {at p : ℕ} →
+    length l < 2 ^ 64 →
+    at + length xs < 2 ^ 64 →
+    l₁ ≡ sets l at xs →
+    p ≡ at + length xs →
+    Put l at xs l₁ p
+put-here h k b e = record { short = h; bytes = b; place = omega (arith, e) }
+
+-- a column: a byte, and text after it
+pub column-here :
+    (n : ℕ) {l l₁ l₂ xs : List ℕ} {at b p : ℕ} →
+    length l < 2 ^ 64 →
+    at + (1 + n) < 2 ^ 64 →
+    length xs ≡ n →
+    l₁ ≡ set l at b →
+    l₂ ≡ sets l₁ (at + 1) xs →
+    p ≡ at + (1 + n) →
+    Put l at (b ∷ xs) l₂ p
+column-here n {l} {l₁} {l₂} {xs} {at} {b} h k long e f p =
+    let both : l₂ ≡ sets l at (b ∷ xs) = rw (← e, ← add-one) f in put-here h (omega arith) both (omega arith)
+
 -- text after text
 pub put-then :
     {l l₁ l₂ xs ys : List ℕ} {at p q : ℕ} → Put l at xs l₁ p → Put l₁ p ys l₂ q → Put l at (xs ++ ys) l₂ q
-put-then {l} {l₁} {l₂} {xs} {ys} {at} a b =
+put-then {l} {l₁} {l₂} {xs} {ys} {at} {p} a b =
     record {
-      bytes = rw (← sets-append l xs ys at, ← a .bytes, ← a .place) (b .bytes);
+      short = a .short;
+      bytes = rw (← sets-append l xs ys at, ← a .bytes, ← sets-after l₁ ys at (length xs) (b .short), ← a .place) (b .bytes);
       place = rw length-append (omega (arith, a .place, b .place));
     }
 
--- text after a byte
-pub put-cons :
-    {l l₁ l₂ xs : List ℕ} {at b p : ℕ} → l₁ ≡ set l at b → Put l₁ (at + 1) xs l₂ p → Put l at (b ∷ xs) l₂ p
-put-cons {l} {l₁} {l₂} {xs} {at} {b} e a =
-    record { bytes = rw (← e, ← add-one) (a .bytes); place = omega (arith, a .place) }
+-- text at the front that is not too long to count
+pub put-first : {l l₁ xs : List ℕ} {p : ℕ} → Put l 0 xs l₁ p → length xs < 2 ^ 64 → PutFirst l xs l₁ p
+put-first a h = record { bytes = a .bytes; length = omega (arith, a .place) }

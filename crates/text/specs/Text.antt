@@ -1,5 +1,5 @@
 -- Numbers as text, in ASCII, and text put into a buffer. "Stored words are four hexadecimal digits, the rest decimal."
-use Prim.Native.Nat.{ℕ, zero, suc, _+_, _/_, _%_}
+use Prim.Native.Nat.{ℕ, zero, suc, _+_, _-_, _/_, _%_, _^_, _<_, min}
 use mathlib.Core.Path.{_≡_}
 use mathlib.Core.Bool.{cond}
 use mathlib.Core.List.{List, [], _∷_, _++_}
@@ -34,8 +34,19 @@ decimalText n = digits (placesUpTo 19 n) n
 abbrev pub newline : List ℕ
 newline = 10 ∷ []
 
+-- the place n bytes on, in 64 bits; the last number stands for every place past it too
+abbrev pub placeAfter : ℕ → ℕ → ℕ
+placeAfter at n = min (at + n) (2 ^ 64 - 1)
+
 -- `text` put into the buffer `old` from the place `at` on gives the buffer `new`, and `next` is the place after it.
 -- What lies past the buffer's end is dropped.
 pub record Put (old : List ℕ) (at : ℕ) (text : List ℕ) (new : List ℕ) (next : ℕ) : Type 0 where
+  -- no buffer reaches the last place
+  pub short : length old < 2 ^ 64
   pub bytes : new ≡ sets old at text
-  pub place : next ≡ at + length text
+  pub place : next ≡ placeAfter at (length text)
+
+-- `text` put to the front of the buffer `old` gives the buffer `new`, and `used` is its length, also where not all of it fits.
+pub record PutFirst (old text new : List ℕ) (used : ℕ) : Type 0 where
+  pub bytes : new ≡ sets old 0 text
+  pub length : used ≡ length text

@@ -1,47 +1,53 @@
 // The program's lines into a lent buffer. Each function answers the place after what it puts there.
-ghost use Prim.Native.Nat.{_+_, _≤_, _^_};
-ghost use lib.ListN.{length};
 ghost use Rattle.text.specs.Text.{Put, hexText, decimalText, newline};
 ghost use Rattle.text.specs.Line.{column, statusText, startText, threeWords, acceptedLine, refusedLine, lineOf, namedLine, tailLine, endLine, imageLine};
+use crate::text::after;
+use crate::text::places;
 use crate::text::put_byte;
 use crate::text::put_bytes;
 use crate::text::put_decimal;
+use crate::text::put_digits;
 use crate::text::put_hex;
 use message::answer::Answer;
 
 pub fn put_newline(out: &mut [u8], at: usize) -> usize
-    requires { ⌜ at ≤ 2 ^ 63 + 512 ⌝ }
     ensures { λ r. ⌜ Put (now (out .entry)) at newline (now (out .exit)) r ⌝ }
 {
+    if out.len() <= at {
+        return after(at, 1);
+    }
     put_byte(out, at, 10);
     at + 1
 }
 
 // A column of a stored word.
 fn put_word(out: &mut [u8], at: usize, w: u16) -> usize
-    requires { ⌜ at ≤ 2 ^ 63 + 512 ⌝ }
-    ensures text { λ r. ⌜ Put (now (out .entry)) at (column (hexText w)) (now (out .exit)) r ⌝ }
-    ensures near { λ r. ⌜ r ≤ at + 21 ⌝ }
+    ensures { λ r. ⌜ Put (now (out .entry)) at (column (hexText w)) (now (out .exit)) r ⌝ }
 {
+    if out.len() <= at {
+        return after(at, 5);
+    }
     put_byte(out, at, 32);
-    put_hex(out, at + 1, w)
+    put_hex(out, at + 1, w);
+    at + 5
 }
 
 // A column of a number.
 pub fn put_number(out: &mut [u8], at: usize, n: u64) -> usize
-    requires { ⌜ at ≤ 2 ^ 63 + 512 ⌝ }
-    ensures text { λ r. ⌜ Put (now (out .entry)) at (column (decimalText n)) (now (out .exit)) r ⌝ }
-    ensures near { λ r. ⌜ r ≤ at + 21 ⌝ }
+    ensures { λ r. ⌜ Put (now (out .entry)) at (column (decimalText n)) (now (out .exit)) r ⌝ }
 {
+    let k = places(n);
+    if out.len() <= at {
+        return after(at, 1 + k);
+    }
     put_byte(out, at, 32);
-    put_decimal(out, at + 1, n)
+    put_digits(out, at + 1, k, n);
+    at + (1 + k)
 }
 
 // The status column: the word, or "none" where none was sent.
 fn put_status(out: &mut [u8], at: usize, answered: bool, status: u16) -> usize
-    requires { ⌜ at ≤ 2 ^ 63 + 512 ⌝ }
-    ensures text { λ r. ⌜ Put (now (out .entry)) at (column (statusText answered status)) (now (out .exit)) r ⌝ }
-    ensures near { λ r. ⌜ r ≤ at + 21 ⌝ }
+    ensures { λ r. ⌜ Put (now (out .entry)) at (column (statusText answered status)) (now (out .exit)) r ⌝ }
 {
     if answered {
         put_word(out, at, status)
@@ -52,18 +58,14 @@ fn put_status(out: &mut [u8], at: usize, answered: bool, status: u16) -> usize
 
 // The first two columns of every record's line.
 fn put_start(out: &mut [u8], at: usize, number: u64, refusal: u16) -> usize
-    requires { ⌜ at ≤ 2 ^ 63 ⌝ }
-    ensures text { λ r. ⌜ Put (now (out .entry)) at (startText number refusal) (now (out .exit)) r ⌝ }
-    ensures near { λ r. ⌜ r ≤ at + 41 ⌝ }
+    ensures { λ r. ⌜ Put (now (out .entry)) at (startText number refusal) (now (out .exit)) r ⌝ }
 {
     let next = put_decimal(out, at, number);
     put_number(out, next, refusal as u64)
 }
 
 fn put_three(out: &mut [u8], at: usize, x: u16, y: u16, z: u16) -> usize
-    requires { ⌜ at ≤ 2 ^ 63 + 256 ⌝ }
-    ensures text { λ r. ⌜ Put (now (out .entry)) at (threeWords x y z) (now (out .exit)) r ⌝ }
-    ensures near { λ r. ⌜ r ≤ at + 63 ⌝ }
+    ensures { λ r. ⌜ Put (now (out .entry)) at (threeWords x y z) (now (out .exit)) r ⌝ }
 {
     let second = put_word(out, at, x);
     let third = put_word(out, second, y);
@@ -71,7 +73,6 @@ fn put_three(out: &mut [u8], at: usize, x: u16, y: u16, z: u16) -> usize
 }
 
 fn put_accepted(out: &mut [u8], at: usize, number: u64, a: Answer) -> usize
-    requires { ⌜ at ≤ 2 ^ 63 ⌝ }
     ensures { λ r. ⌜ Put (now (out .entry)) at (acceptedLine number a) (now (out .exit)) r ⌝ }
 {
     let words = put_start(out, at, number, a.number);
@@ -83,7 +84,6 @@ fn put_accepted(out: &mut [u8], at: usize, number: u64, a: Answer) -> usize
 }
 
 fn put_refused(out: &mut [u8], at: usize, number: u64, refusal: u16) -> usize
-    requires { ⌜ at ≤ 2 ^ 63 ⌝ }
     ensures { λ r. ⌜ Put (now (out .entry)) at (refusedLine number refusal) (now (out .exit)) r ⌝ }
 {
     let end = put_start(out, at, number, refusal);
@@ -92,7 +92,6 @@ fn put_refused(out: &mut [u8], at: usize, number: u64, refusal: u16) -> usize
 
 // The line of a record, accepted or refused.
 pub fn put_line(out: &mut [u8], at: usize, number: u64, a: Answer) -> usize
-    requires { ⌜ at ≤ 2 ^ 63 ⌝ }
     ensures { λ r. ⌜ Put (now (out .entry)) at (lineOf number a) (now (out .exit)) r ⌝ }
 {
     if a.number == 0 {
@@ -103,7 +102,6 @@ pub fn put_line(out: &mut [u8], at: usize, number: u64, a: Answer) -> usize
 }
 
 pub fn put_named(out: &mut [u8], at: usize, name: &[u8], n: u64) -> usize
-    requires { ⌜ (at ≤ 2 ^ 63) × (length (now name) ≤ 21) ⌝ }
     ensures { λ r. ⌜ Put (now (out .entry)) at (namedLine (now (name .entry)) n) (now (out .exit)) r ⌝ }
 {
     let next = put_bytes(out, at, name);
@@ -113,7 +111,6 @@ pub fn put_named(out: &mut [u8], at: usize, name: &[u8], n: u64) -> usize
 
 // Nothing where there is no tail.
 pub fn put_tail(out: &mut [u8], at: usize, tail: u64) -> usize
-    requires { ⌜ at ≤ 2 ^ 63 ⌝ }
     ensures { λ r. ⌜ Put (now (out .entry)) at (tailLine tail) (now (out .exit)) r ⌝ }
 {
     if tail == 0 {
@@ -123,14 +120,12 @@ pub fn put_tail(out: &mut [u8], at: usize, tail: u64) -> usize
 }
 
 pub fn put_end(out: &mut [u8], at: usize, number: u64) -> usize
-    requires { ⌜ at ≤ 2 ^ 63 ⌝ }
     ensures { λ r. ⌜ Put (now (out .entry)) at (endLine number) (now (out .exit)) r ⌝ }
 {
     put_named(out, at, b"end", number)
 }
 
 pub fn put_image(out: &mut [u8], at: usize, bytes: u64) -> usize
-    requires { ⌜ at ≤ 2 ^ 63 ⌝ }
     ensures { λ r. ⌜ Put (now (out .entry)) at (imageLine bytes) (now (out .exit)) r ⌝ }
 {
     put_named(out, at, b"image", bytes)

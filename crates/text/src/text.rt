@@ -1,9 +1,21 @@
-// Text into a lent buffer. A byte past the buffer's end is dropped, as in the definition.
+// Text into a lent buffer. A byte past the buffer's end is dropped, as in the definition; where
+// the first one is, nothing is put, so that no place is ever counted past the last number.
 ghost use mathlib.Core.Path.{_≡_};
-ghost use Prim.Native.Nat.{_+_, _≤_, _<_, _^_};
-ghost use lib.ListN.{length, set};
+ghost use Prim.Native.Nat.{_≤_, _<_, _^_};
+ghost use lib.ListN.{set};
 ghost use lib.Seq.{sets};
-ghost use Rattle.text.specs.Text.{Put, hexDigit, hexText, digits, placesUpTo, decimalText};
+ghost use Rattle.text.specs.Text.{placeAfter, Put, hexDigit, hexText, digits, placesUpTo, decimalText};
+
+// The place n bytes on. The last number stands for every place past it too: no buffer reaches it.
+pub(crate) fn after(at: usize, n: usize) -> usize
+    ensures { λ r. ⌜ r ≡ placeAfter at n ⌝ }
+{
+    if n <= usize::MAX - at {
+        at + n
+    } else {
+        usize::MAX
+    }
+}
 
 pub(crate) fn put_byte(out: &mut [u8], at: usize, b: u8)
     ensures { λ r. ⌜ now (out .exit) ≡ set (now (out .entry)) at b ⌝ }
@@ -15,9 +27,11 @@ pub(crate) fn put_byte(out: &mut [u8], at: usize, b: u8)
 
 // The bytes of `s` at `at`, and the place after them.
 pub fn put_bytes(out: &mut [u8], at: usize, s: &[u8]) -> usize
-    requires { ⌜ (at ≤ 2 ^ 63 + 1024) × (length (now s) ≤ 21) ⌝ }
     ensures { λ r. ⌜ Put (now (out .entry)) at (now (s .entry)) (now (out .exit)) r ⌝ }
 {
+    if out.len() <= at {
+        return after(at, s.len());
+    }
     let mut i: usize = 0;
     while i < s.len() {
         put_byte(out, at + i, s[i]);
@@ -33,21 +47,21 @@ fn hex_digit(d: u16) -> u8
     if d < 10 { 48 + d as u8 } else { 55 + d as u8 }
 }
 
-// Four hexadecimal digits, and the place after them.
-pub(crate) fn put_hex(out: &mut [u8], at: usize, w: u16) -> usize
-    requires { ⌜ at ≤ 2 ^ 63 + 1024 ⌝ }
-    ensures { λ r. ⌜ Put (now (out .entry)) at (hexText w) (now (out .exit)) r ⌝ }
+// Four hexadecimal digits.
+pub(crate) fn put_hex(out: &mut [u8], at: usize, w: u16)
+    requires { ⌜ at ≤ 2 ^ 63 ⌝ }
+    ensures { λ r. ⌜ now (out .exit) ≡ sets (now (out .entry)) at (hexText w) ⌝ }
 {
     put_byte(out, at, hex_digit(w / 4096 % 16));
     put_byte(out, at + 1, hex_digit(w / 256 % 16));
     put_byte(out, at + 2, hex_digit(w / 16 % 16));
     put_byte(out, at + 3, hex_digit(w % 16));
-    at + 4
 }
 
 // How many decimal digits n has.
-fn places(n: u64) -> usize
-    ensures { λ r. ⌜ r ≡ placesUpTo 19 n ⌝ }
+pub(crate) fn places(n: u64) -> usize
+    ensures counted { λ r. ⌜ r ≡ placesUpTo 19 n ⌝ }
+    ensures few { λ r. ⌜ r ≤ 20 ⌝ }
 {
     let mut k: usize = 1;
     let mut rest = n;
@@ -59,8 +73,8 @@ fn places(n: u64) -> usize
 }
 
 // The last k decimal digits of n, written from the last one back.
-fn put_digits(out: &mut [u8], at: usize, k: usize, n: u64)
-    requires { ⌜ (at ≤ 2 ^ 63 + 1024) × (k ≤ 20) ⌝ }
+pub(crate) fn put_digits(out: &mut [u8], at: usize, k: usize, n: u64)
+    requires { ⌜ (at ≤ 2 ^ 63) × (k ≤ 20) ⌝ }
     ensures { λ r. ⌜ now (out .exit) ≡ sets (now (out .entry)) at (digits k n) ⌝ }
 {
     let mut i = k;
@@ -74,11 +88,12 @@ fn put_digits(out: &mut [u8], at: usize, k: usize, n: u64)
 
 // A decimal number, and the place after it.
 pub(crate) fn put_decimal(out: &mut [u8], at: usize, n: u64) -> usize
-    requires { ⌜ at ≤ 2 ^ 63 + 1024 ⌝ }
-    ensures text { λ r. ⌜ Put (now (out .entry)) at (decimalText n) (now (out .exit)) r ⌝ }
-    ensures near { λ r. ⌜ r ≤ at + 20 ⌝ }
+    ensures { λ r. ⌜ Put (now (out .entry)) at (decimalText n) (now (out .exit)) r ⌝ }
 {
     let k = places(n);
+    if out.len() <= at {
+        return after(at, k);
+    }
     put_digits(out, at, k, n);
     at + k
 }

@@ -11,11 +11,11 @@ load-image-settled κs a x y v w p q = (refl, λ i. (determined p q i, v .1))
 
 pub put-last-lines-settled : Settled 1 output.put_last_lines.Kinds.ps output.put_last_lines.Kinds.r output.put_last_lines.Reads.Post
 put-last-lines-settled κs a x y v w p q =
-    (determined (p .place) (q .place), λ i. (determined (p .bytes) (q .bytes) i, v .1))
+    (determined (p .length) (q .length), λ i. (determined (p .bytes) (q .bytes) i, v .1))
 
 pub put-image-line-settled : Settled 1 output.put_image_line.Kinds.ps output.put_image_line.Kinds.r output.put_image_line.Reads.Post
 put-image-line-settled κs a x y v w p q =
-    (determined (p .place) (q .place), λ i. (determined (p .bytes) (q .bytes) i, v .1))
+    (determined (p .length) (q .length), λ i. (determined (p .bytes) (q .bytes) i, v .1))
 
 pub walk-settled : Settled 4 walk.walk.Kinds.ps walk.walk.Kinds.r walk.walk.Reads.Post
 walk-settled κs a x y v w p q = (

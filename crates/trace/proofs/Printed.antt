@@ -10,12 +10,11 @@ use Rattle.words.specs.declared.settings.Settings.{Settings}
 use Rattle.words.specs.declared.remembered.Remembered.{Remembered}
 use Rattle.words.specs.Remembered.{nothingRemembered}
 use Rattle.trace.specs.declared.walk.Walked.{Walked}
-use Rattle.text.specs.Line.{imageLine, namedLine}
+use Rattle.text.specs.Line.{imageName, imageLine}
 use Rattle.trace.specs.Walk.{Walk, walkAll, walkStart, walkedOf, anew}
 use Rattle.words.specs.Settings.{programSettings}
 use Rattle.trace.specs.Output.{imageRam, lastLines, textToEnd, traceText, programOutput, written, refilled, WholeRefills}
-use Rattle.text.proofs.Numerals.{decimal-most}
-use Rattle.text.proofs.Lines.{tail-most, end-most}
+use Rattle.text.proofs.Lines.{named-most, tail-most, end-most}
 use Rattle.trace.proofs.Walks.{text-most}
 use Rattle.trace.proofs.Chunks.{walk-append, all-anew}
 
@@ -99,5 +98,5 @@ unfolding lastLines
 last-most tail number = rw length-append (omega (arith, tail-most tail, end-most number))
 
 pub image-most : (n : ℕ) → length (imageLine n) ≤ 27
-unfolding imageLine namedLine
-image-most n = simp length-append (omega (arith, decimal-most n))
+unfolding imageLine
+image-most n = named-most imageName n

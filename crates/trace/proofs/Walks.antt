@@ -1,21 +1,20 @@
 -- Where a walk stands after some records.
 use Prim.Native.Nat.{ℕ, zero, suc, _+_, _*_, _%_, _^_, _<_, _≤_}
-use native.Mathlib.Nat.{zero-add}
 use native.Mathlib.Numerals.{add-one}
 use native.Mathlib.Omega.{arith}
 use mathlib.Core.Path.{_≡_, refl}
 use mathlib.Core.List.{List}
 use lib.ListN.{length, length-append}
-use lib.Seq.{sets}
 use Rattle.words.specs.declared.settings.Settings.{Settings}
 use Rattle.words.specs.declared.remembered.Remembered.{Remembered}
 use Rattle.memory.specs.State.{State, stateOf}
 use Rattle.message.specs.Heard.{heardBytes}
 use Rattle.message.specs.Message.{answerOf, step}
 use Rattle.trace.specs.declared.walk.Walked.{Walked}
+use Rattle.text.specs.Text.{Put, PutFirst}
 use Rattle.text.specs.Line.{lineOf}
 use Rattle.trace.specs.Walk.{Walk, Leaves, recordAt, nextNumber, walkRecord, walkTo, walkStart, walkedOf}
-use Rattle.text.proofs.Runs.{sets-append}
+use Rattle.text.proofs.Runs.{put-none, put-then, put-first}
 use Rattle.text.proofs.Lines.{line-most}
 
 pub walk-more :
@@ -40,9 +39,8 @@ text-most s trace w (suc n) =
 -- the walk so far, its text from the front of the lent buffer `room`
 pub record Stands (w : Walk) (room ram reply out : List ℕ) (walked : Walked) : Type 0 where
   pub state : stateOf ram reply (walked .remembered) ≡ w .state
-  pub text : out ≡ sets room 0 (w .text)
+  pub text : Put room 0 (w .text) out (walked .used)
   pub number : walked .number ≡ w .number
-  pub used : walked .used ≡ length (w .text)
 
 record-stands :
     (s : Settings) (bytes : List ℕ) (w : Walk) (room ram reply out ram₁ reply₁ out₁ : List ℕ) (walked walked₁ : Walked) →
@@ -56,17 +54,18 @@ record-stands s bytes w room ram reply out ram₁ reply₁ out₁ walked walked�
     rw (a .state, a .number) in
     record {
       state = rw (← a .state) (b .state);
-      text = rw (← sets-append room (w .text) line 0, zero-add, ← a .text, ← a .used, ← same) (b .line);
+      text = rw (← same) (put-then (a .text) (b .line));
       number = rw (← a .number) (b .number);
-      used = rw (length-append, ← a .used, ← same) (b .used);
     }
 
 pub stands-none :
     (s : Settings) (trace ram reply room : List ℕ) (before : Remembered) (number : ℕ) →
+    length room < 2 ^ 64 →
     Stands (walkTo s trace (walkStart ram reply before number) 0) room ram reply room
     (record { remembered = before; number = number; used = 0 })
 unfolding walkTo
-stands-none s trace ram reply room before number = record { state = refl; text = refl; number = refl; used = refl }
+stands-none s trace ram reply room before number h =
+    record { state = refl; text = put-none h (omega arith); number = refl }
 
 pub stands-more :
     (s : Settings) (trace : List ℕ) (w : Walk) (n : ℕ) {room ram reply out ram₁ reply₁ out₁ : List ℕ} {walked walked₁ : Walked} →
@@ -75,16 +74,21 @@ pub stands-more :
     Stands (walkTo s trace w (n + 1)) room ram₁ reply₁ out₁ walked₁
 stands-more s trace w n a b = rw walk-more (record-stands _ _ _ _ _ _ _ _ _ _ _ _ a b)
 
--- the next line's place
-pub stands-place :
+-- a trace that fits a slice has a text that can be counted
+pub stands-text :
     (s : Settings) (trace : List ℕ) (w : Walk) (n : ℕ) {room ram reply out : List ℕ} {walked : Walked} →
+    length (w .text) + 72 * n < 2 ^ 64 →
     Stands (walkTo s trace w n) room ram reply out walked →
-    walked .used ≤ length (w .text) + 72 * n
-stands-place s trace w n a = rw (a .used) (text-most s trace w n)
+    PutFirst room (walkTo s trace w n .text) out (walked .used)
+stands-text s trace w n h a = put-first (a .text) (omega (arith, text-most s trace w n))
 
 -- what the function hands back is the walk's
-pub stands-back : {w : Walk} {room ram reply out : List ℕ} {walked : Walked} → Stands w room ram reply out walked → walked ≡ walkedOf w
-stands-back a = λ i. record { remembered = a .state i .remembered; number = a .number i; used = a .used i }
+pub stands-back :
+    {w : Walk} {room ram reply out : List ℕ} {walked : Walked} →
+    Stands w room ram reply out walked →
+    PutFirst room (w .text) out (walked .used) →
+    walked ≡ walkedOf w
+stands-back a t = λ i. record { remembered = a .state i .remembered; number = a .number i; used = t .length i }
 
 -- the number counts records, refused ones too
 pub walk-number :

@@ -4,13 +4,13 @@ use Prim.Native.Nat.{ℕ, zero, suc, _+_, _*_, _/_, _%_, _^_}
 use mathlib.Core.Path.{_≡_}
 use mathlib.Core.List.{List, [], _++_}
 use lib.ListN.{length, take, drop}
-use lib.Seq.{sets}
 use Rattle.words.specs.declared.settings.Settings.{Settings}
 use Rattle.words.specs.declared.remembered.Remembered.{Remembered}
 use Rattle.memory.specs.State.{State, stateOf}
 use Rattle.message.specs.Heard.{heardBytes}
 use Rattle.message.specs.Message.{answerOf, step}
 use Rattle.trace.specs.declared.walk.Walked.{Walked}
+use Rattle.text.specs.Text.{Put}
 use Rattle.text.specs.Line.{lineOf}
 
 -- record n of a trace, counted from 0
@@ -63,6 +63,5 @@ walkedOf w = record { remembered = w .state .remembered; number = w .number; use
 -- one record's walk, with its line at a place of the lent buffer `room`: every lent word afterwards, and what is handed back
 pub record Leaves (w : Walk) (room : List ℕ) (at : ℕ) (ram reply out : List ℕ) (walked : Walked) : Type 0 where
   pub state : stateOf ram reply (walked .remembered) ≡ w .state
-  pub line : out ≡ sets room at (w .text)
+  pub line : Put room at (w .text) out (walked .used)
   pub number : walked .number ≡ w .number
-  pub used : walked .used ≡ at + length (w .text)

@@ -3,7 +3,7 @@ ghost use mathlib.Core.Path.{_≡_};
 ghost use Prim.Native.Nat.{_+_, _*_, _<_, _^_};
 ghost use lib.ListN.{length, getD};
 ghost use Rattle.layout.specs.Layout.{wordAt};
-ghost use Rattle.text.specs.Text.{Put};
+ghost use Rattle.text.specs.Text.{PutFirst};
 ghost use Rattle.text.specs.Line.{imageLine};
 ghost use Rattle.trace.specs.Output.{imageInto, lastLines};
 use layout::reader::join;
@@ -38,7 +38,7 @@ pub fn load_image(ram: &mut [u16], bytes: &[u8])
 
 // The lines after the last whole record: the tail, if there is one, and the end line. Answers their length.
 pub fn put_last_lines(out: &mut [u8], tail: usize, number: u64) -> usize
-    ensures { λ r. ⌜ Put (now (out .entry)) 0 (lastLines tail number) (now (out .exit)) r ⌝ }
+    ensures { λ r. ⌜ PutFirst (now (out .entry)) (lastLines tail number) (now (out .exit)) r ⌝ }
 {
     let end = put_tail(out, 0, tail as u64);
     put_end(out, end, number)
@@ -46,7 +46,7 @@ pub fn put_last_lines(out: &mut [u8], tail: usize, number: u64) -> usize
 
 // The line of an image that is cut short. Answers its length.
 pub fn put_image_line(out: &mut [u8], bytes: usize) -> usize
-    ensures { λ r. ⌜ Put (now (out .entry)) 0 (imageLine bytes) (now (out .exit)) r ⌝ }
+    ensures { λ r. ⌜ PutFirst (now (out .entry)) (imageLine bytes) (now (out .exit)) r ⌝ }
 {
     put_image(out, 0, bytes as u64)
 }

@@ -1,6 +1,5 @@
 // Walking a trace: each whole record to the terminal, each answer to a line.
 ghost use mathlib.Core.Path.{_≡_};
-ghost use Prim.Native.Nat.{_≤_, _^_};
 ghost use lib.Seq.{sets};
 ghost use Rattle.trace.specs.Walk.{Leaves, walkStart, walkRecord, walkAll, walkedOf};
 use message::serve::message_from_bytes;
@@ -25,7 +24,6 @@ fn walk_one(
     w: Walked,
     bytes: &[u8],
 ) -> Walked
-    requires { ⌜ w .used ≤ 2 ^ 63 ⌝ }
     ensures { λ r. ⌜ Leaves (walkRecord s (now (bytes .entry)) (walkStart (now (ram .entry)) (now (reply .entry)) (w .remembered) (w .number))) (now (out .entry)) (w .used) (now (ram .exit)) (now (reply .exit)) (now (out .exit)) r ⌝ }
 {
     let before = w.remembered;

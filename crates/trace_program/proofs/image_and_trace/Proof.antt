@@ -20,7 +20,7 @@ put-image-line-requires c κs = search needs
 print-all-requires : tie.Need-print-all-requires
 print-all-requires c κs =
     let line = c .before .before .before .put-image-line in
-    omega (arith, line .ensures .place, line .kept .0, image-most (c .before .before .before .before .before .before .before .before .before .fill .result .got))
+    omega (arith, line .ensures .length, line .kept .0, image-most (c .before .before .before .before .before .before .before .before .before .fill .result .got))
 
 same-length-2 : tie.Need-same-length-2
 same-length-2 c = search needs

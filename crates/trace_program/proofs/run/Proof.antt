@@ -45,7 +45,7 @@ print-all-requires : tie.Need-print-all-requires Inv-loop μ-loop
 print-all-requires c κs =
     let lines = c .before .before .before .put-last-lines in
     let at = c .before .before .before .before .before .before .before .loop .at in
-    omega (arith, lines .ensures .place, lines .kept .0, last-most (at .left) (at .number))
+    omega (arith, lines .ensures .length, lines .kept .0, last-most (at .left) (at .number))
 
 same-length : tie.Need-same-length Inv-loop μ-loop
 same-length c = search needs

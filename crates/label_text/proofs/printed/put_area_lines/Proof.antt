@@ -1,5 +1,4 @@
 -- `put_area_lines` meets its contract.
-use native.Mathlib.Omega.{arith}
 use borrow.Author.Needs.{needs}
 use mathlib.Core.Path.{sym}
 use lib.Seq.{length-take-le}
@@ -15,9 +14,7 @@ slice-aggregate-put-pairs : tie.Need-slice-aggregate-put-pairs
 slice-aggregate-put-pairs c = sym (length-take-le _ _ (c .before .before .before .before .before .pre .pairs-there))
 
 put-pairs-requires : tie.Need-put-pairs-requires
-put-pairs-requires c κs =
-    let pre = c .before .before .before .before .before .pre in
-    (omega arith, rw (length-take-le _ _ (pre .pairs-there)) (pre .few-pairs))
+put-pairs-requires c κs = search needs
 
 cast-named : tie.Need-cast-named
 cast-named c = search needs
@@ -29,9 +26,7 @@ slice-aggregate-put-unsound : tie.Need-slice-aggregate-put-unsound
 slice-aggregate-put-unsound c = sym (length-take-le _ _ (c .before .before .before .before .before .before .before .before .before .before .before .before .pre .unsound-there))
 
 put-unsound-requires : tie.Need-put-unsound-requires
-put-unsound-requires c κs =
-    let pre = c .before .before .before .before .before .before .before .before .before .before .before .before .pre in
-    (omega (arith, c .before .before .before .before .before .before .put-pairs .ensures .1), rw (length-take-le _ _ (pre .unsound-there)) (pre .few-unsound))
+put-unsound-requires c κs = search needs
 
 slice-aggregate-put-named : tie.Need-slice-aggregate-put-named
 slice-aggregate-put-named c = search needs
@@ -50,7 +45,7 @@ unfolding linesOf
 returns c =
     let unsound = c .before .before .before .before .before .before .before .before in
     let pairs = unsound .before .before .before .before .before .before .before in
-    put-then (put-then (pairs .put-pairs .ensures .0) (unsound .put-unsound .ensures .0)) (c .before .before .put-named .ensures)
+    put-then (put-then (pairs .put-pairs .ensures) (unsound .put-unsound .ensures)) (c .before .before .put-named .ensures)
 
 pub put-area-lines-spec : {M : Type 1} → statement M
 put-area-lines-spec =

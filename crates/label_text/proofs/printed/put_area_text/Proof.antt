@@ -4,6 +4,8 @@ use lib.ListN.{length, replicate, length-replicate}
 use mathlib.Core.Path.{_≡_}
 use Prim.Native.Nat.{ℕ}
 use mathlib.Core.List.{List}
+use Rattle.text.proofs.Runs.{put-first}
+use Rattle.label_text.proofs.Most.{area-most}
 use Rattle.label_text.proofs.Handed.{area-fits, area-printed, area-refused-text}
 use Rattle.label_text.proofs.printed.put_area_text.Statement.{statement}
 use Rattle.label_text.proofs.printed.put_area_text.Tie as tie
@@ -31,7 +33,7 @@ returns : tie.Need-returns
 returns c =
     let label = c .before .before .before .before .before .before .before .label-area .ensures in
     let text = area-refused-text _ _ room _ _ room-long (label .0) (label .1) (c .before .before .before .before .if1 .taken) in
-    rw (← text) (c .before .before .put-refused .ensures)
+    put-first (rw (← text) (c .before .before .put-refused .ensures)) (area-most _ _)
 
 slice-aggregate-put-area-lines : tie.Need-slice-aggregate-put-area-lines
 slice-aggregate-put-area-lines c = search needs
@@ -48,7 +50,7 @@ returns-2 : tie.Need-returns-2
 returns-2 c =
     let label = c .before .before .before .before .before .before .before .before .label-area .ensures in
     let text = area-printed _ _ room _ _ room-long (label .0) (label .1) (c .before .before .before .before .before .if1 .left) in
-    rw (← text) (c .before .before .put-area-lines .ensures)
+    put-first (rw (← text) (c .before .before .put-area-lines .ensures)) (area-most _ _)
 
 pub put-area-text-spec : {M : Type 1} → statement M
 put-area-text-spec =

@@ -13,13 +13,13 @@ use Rattle.label_text.proofs.printed.put_others.Statement.{statement}
 use Rattle.label_text.proofs.printed.put_others.Tie as tie
 
 abbrev Inv-loop : tie.InvT-loop
-Inv-loop out₀ at others next₀ i₀ t7 out next i = ((i ≤ length others) × (next ≤ at + 32 * i)) × Put out₀ at (flatMap alsoText (take i others)) out next
+Inv-loop out₀ at others next₀ i₀ t7 out next i = (i ≤ length others) × Put out₀ at (flatMap alsoText (take i others)) out next
 
 abbrev μ-loop : tie.MeasureT-loop
 μ-loop out₀ at others next₀ i₀ t7 out next i = length others - i
 
 loop-holds : tie.Need-loop-holds Inv-loop μ-loop
-loop-holds c = ((omega arith, omega arith), no-lines alsoText _ _)
+loop-holds c = (omega arith, no-lines alsoText _ _ (omega arith) (omega arith))
 
 slice-aggregate-put-bytes : tie.Need-slice-aggregate-put-bytes Inv-loop μ-loop
 slice-aggregate-put-bytes c = search needs
@@ -48,9 +48,9 @@ loop-again c =
     let put = c .before .before in
     let comma = put .before .before .before .before .before in
     let at = comma .before .before .before .before in (
-      (omega arith, omega (arith, put .put-cell .ensures .1, comma .put-bytes .ensures .place, at .loop .inv .0 .1)),
+      omega arith,
       put-line alsoText _ (at .loop .i) 0 _ _ _ _ _ _ (omega arith) (at .loop .inv .1)
-          (put-then (comma .put-bytes .ensures) (put .put-cell .ensures .0)),
+          (put-then (comma .put-bytes .ensures) (put .put-cell .ensures)),
     )
 
 same-length : tie.Need-same-length Inv-loop μ-loop
@@ -58,7 +58,7 @@ same-length c = put-kept (c .before .loop .inv .1)
 
 returns : tie.Need-returns Inv-loop μ-loop
 returns c =
-    (all-lines alsoText (c .before .before .before .before .args .others .now) (c .before .loop .i) _ _ _ _ (c .before .loop .inv .1) (omega arith), omega (arith, c .before .loop .inv .0 .1))
+    all-lines alsoText (c .before .before .before .before .args .others .now) (c .before .loop .i) _ _ _ _ (c .before .loop .inv .1) (omega arith)
 
 pub put-others-spec : {M : Type 1} → statement M
 put-others-spec =

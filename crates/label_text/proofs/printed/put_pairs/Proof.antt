@@ -12,13 +12,13 @@ use Rattle.label_text.proofs.printed.put_pairs.Statement.{statement}
 use Rattle.label_text.proofs.printed.put_pairs.Tie as tie
 
 abbrev Inv-loop : tie.InvT-loop
-Inv-loop out₀ at pairs next₀ i₀ out next i = ((i ≤ length pairs) × (next ≤ at + 86 * i)) × Put out₀ at (flatMap wordLine (take i pairs)) out next
+Inv-loop out₀ at pairs next₀ i₀ out next i = (i ≤ length pairs) × Put out₀ at (flatMap wordLine (take i pairs)) out next
 
 abbrev μ-loop : tie.MeasureT-loop
 μ-loop out₀ at pairs next₀ i₀ out next i = length pairs - i
 
 loop-holds : tie.Need-loop-holds Inv-loop μ-loop
-loop-holds c = ((omega arith, omega arith), no-lines wordLine _ _)
+loop-holds c = (omega arith, no-lines wordLine _ _ (omega arith) (omega arith))
 
 mul-word : tie.Need-mul-word Inv-loop μ-loop
 mul-word c = search needs
@@ -46,8 +46,8 @@ loop-again c =
     let put = c .before .before in
     let second = put .before in
     let at = second .before .before .before .before .before in
-    let line = rw (second .sharer-numbered2 .ensures, second .before .sharer-numbered .ensures) at (put .put-meeting .ensures .0) in (
-      (omega arith, omega (arith, put .put-meeting .ensures .1, at .loop .inv .0 .1)),
+    let line = rw (second .sharer-numbered2 .ensures, second .before .sharer-numbered .ensures) at (put .put-meeting .ensures) in (
+      omega arith,
       put-line wordLine _ (at .loop .i) 0 _ _ _ _ _ _ (omega arith) (at .loop .inv .1) line,
     )
 
@@ -56,7 +56,7 @@ same-length c = put-kept (c .before .loop .inv .1)
 
 returns : tie.Need-returns Inv-loop μ-loop
 returns c =
-    (all-lines wordLine (c .before .before .before .before .args .pairs .now) (c .before .loop .i) _ _ _ _ (c .before .loop .inv .1) (omega arith), omega (arith, c .before .loop .inv .0 .1))
+    all-lines wordLine (c .before .before .before .before .args .pairs .now) (c .before .loop .i) _ _ _ _ (c .before .loop .inv .1) (omega arith)
 
 pub put-pairs-spec : {M : Type 1} → statement M
 put-pairs-spec =

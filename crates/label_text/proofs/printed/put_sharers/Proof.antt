@@ -13,7 +13,7 @@ use Rattle.label_text.proofs.printed.put_sharers.Statement.{statement}
 use Rattle.label_text.proofs.printed.put_sharers.Tie as tie
 
 abbrev Inv-loop : tie.InvT-loop
-Inv-loop out₀ cell label own next₀ i₀ out next i = ((i ≤ label .count) × (next ≤ 86 * i)) × Put out₀ 0 (flatMap (meetLine own) (take i (label .cells))) out next
+Inv-loop out₀ cell label own next₀ i₀ out next i = (i ≤ label .count) × Put out₀ 0 (flatMap (meetLine own) (take i (label .cells))) out next
 
 abbrev μ-loop : tie.MeasureT-loop
 μ-loop out₀ cell label own next₀ i₀ out next i = label .count - i
@@ -22,7 +22,7 @@ sharer-numbered-requires : tie.Need-sharer-numbered-requires Inv-loop μ-loop
 sharer-numbered-requires c κs = search needs
 
 loop-holds : tie.Need-loop-holds Inv-loop μ-loop
-loop-holds c = ((omega arith, omega arith), no-lines (meetLine _) _ _)
+loop-holds c = (omega arith, no-lines (meetLine _) _ _ (omega arith) (omega arith))
 
 cast-loop : tie.Need-cast-loop Inv-loop μ-loop
 cast-loop c = omega (arith, c .before .before .before .pre .few)
@@ -46,8 +46,8 @@ loop-again : tie.Need-loop-again Inv-loop μ-loop
 loop-again c =
     let put = c .before .before in
     let at = put .before .before .before .before in (
-      (omega arith, omega (arith, put .put-meeting .ensures .1, at .loop .inv .0 .1)),
-      put-line (meetLine _) (at .before .before .before .args .t3 .cells) (at .loop .i) noSharer _ _ _ _ _ _ (omega (arith, at .before .before .before .pre .there)) (at .loop .inv .1) (put .put-meeting .ensures .0),
+      omega arith,
+      put-line (meetLine _) (at .before .before .before .args .t3 .cells) (at .loop .i) noSharer _ _ _ _ _ _ (omega (arith, at .before .before .before .pre .there)) (at .loop .inv .1) (put .put-meeting .ensures),
     )
 
 same-length : tie.Need-same-length Inv-loop μ-loop
@@ -57,7 +57,7 @@ returns : tie.Need-returns Inv-loop μ-loop
 returns c =
     let at = c .before in
     let e : at .loop .i ≡ at .before .before .before .args .t3 .count = omega arith in
-    (rw (e, at .before .sharer-numbered .ensures) at (at .loop .inv .1), omega (arith, at .loop .inv .0 .1))
+    rw (e, at .before .sharer-numbered .ensures) at (at .loop .inv .1)
 
 pub put-sharers-spec : {M : Type 1} → statement M
 put-sharers-spec =

@@ -6,7 +6,7 @@ use Rattle.label_text.proofs.printed.put_unsound.Statement.{statement}
 use Rattle.label_text.proofs.printed.put_unsound.Tie as tie
 
 returns : tie.Need-returns
-returns c = (no-cells _ _ _ (c .if1 .taken), omega arith)
+returns c = no-cells _ _ _ (omega arith) (omega arith) (c .if1 .taken)
 
 slice-aggregate-put-bytes : tie.Need-slice-aggregate-put-bytes
 slice-aggregate-put-bytes c = search needs
@@ -43,11 +43,8 @@ returns-2 c =
     let others = c .before .before .before .before .before .before in
     let first = others .before .before .before .before .before in
     let named = first .before .before .before .before .before in
-    let start = named .before .before .before .before .before .before in (
-      first-and-others _ _ _ _ _ _ _ _ _ (omega arith) (named .put-bytes .ensures) (first .put-cell .ensures .0) (others .put-others .ensures .0)
-          (c .before .before .put-newline .ensures),
-      omega (arith, named .put-bytes .ensures .place, first .put-cell .ensures .1, others .put-others .ensures .1, c .before .before .put-newline .ensures .place),
-    )
+    first-and-others _ _ _ _ _ _ _ _ _ (omega arith) (named .put-bytes .ensures) (first .put-cell .ensures)
+    (others .put-others .ensures) (c .before .before .put-newline .ensures)
 
 pub put-unsound-spec : {M : Type 1} → statement M
 put-unsound-spec =

@@ -1,5 +1,4 @@
 -- `put_cell` meets its contract.
-use native.Mathlib.Omega.{arith}
 use borrow.Author.Needs.{needs}
 use Rattle.label_text.specs.Wording.{cellText}
 use Rattle.text.proofs.Runs.{put-then}
@@ -24,10 +23,8 @@ same-length c = search needs
 returns : tie.Need-returns
 unfolding cellText
 returns c =
-    let kind = c .before .before .before .before .before .before in (
-      rw (← (kind .before .kind-numbered .ensures)) (put-then (kind .put-kind .ensures .0) (c .before .before .put-number .ensures .0)),
-      omega arith,
-    )
+    let kind = c .before .before .before .before .before .before in
+    rw (← (kind .before .kind-numbered .ensures)) (put-then (kind .put-kind .ensures) (c .before .before .put-number .ensures))
 
 pub put-cell-spec : {M : Type 1} → statement M
 put-cell-spec =

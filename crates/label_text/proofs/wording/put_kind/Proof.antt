@@ -1,5 +1,4 @@
 -- `put_kind` meets its contract: a name for each kind.
-use native.Mathlib.Omega.{arith}
 use borrow.Author.Needs.{needs}
 use Rattle.label_text.proofs.wording.put_kind.Statement.{statement}
 use Rattle.label_text.proofs.wording.put_kind.Tie as tie
@@ -35,19 +34,19 @@ same-length : tie.Need-same-length
 same-length c = search needs
 
 returns : tie.Need-returns
-returns c = (rw (c .before .before .before .before .before .enum-told .given .1) (c .before .before .put-bytes .ensures), omega arith)
+returns c = rw (c .before .before .before .before .before .enum-told .given .1) (c .before .before .put-bytes .ensures)
 
 same-length-2 : tie.Need-same-length-2
 same-length-2 c = search needs
 
 returns-2 : tie.Need-returns-2
-returns-2 c = (rw (c .before .before .before .before .before .enum-told2 .given .1) (c .before .before .put-bytes2 .ensures), omega arith)
+returns-2 c = rw (c .before .before .before .before .before .enum-told2 .given .1) (c .before .before .put-bytes2 .ensures)
 
 same-length-3 : tie.Need-same-length-3
 same-length-3 c = search needs
 
 returns-3 : tie.Need-returns-3
-returns-3 c = (rw (c .before .before .before .before .before .enum-told3 .given .1) (c .before .before .put-bytes3 .ensures), omega arith)
+returns-3 c = rw (c .before .before .before .before .before .enum-told3 .given .1) (c .before .before .put-bytes3 .ensures)
 
 pub put-kind-spec : {M : Type 1} → statement M
 put-kind-spec =

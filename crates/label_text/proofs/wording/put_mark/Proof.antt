@@ -1,5 +1,4 @@
 -- `put_mark` meets its contract, by the mark.
-use native.Mathlib.Omega.{arith}
 use borrow.Author.Needs.{needs}
 use Rattle.label_text.proofs.wording.put_mark.Statement.{statement}
 use Rattle.label_text.proofs.wording.put_mark.Tie as tie
@@ -20,13 +19,13 @@ same-length : tie.Need-same-length
 same-length c = search needs
 
 returns : tie.Need-returns
-returns c = (rw (c .before .before .before .before .before .if1 .taken) (c .before .before .put-bytes .ensures), omega arith)
+returns c = rw (c .before .before .before .before .before .if1 .taken) (c .before .before .put-bytes .ensures)
 
 same-length-2 : tie.Need-same-length-2
 same-length-2 c = search needs
 
 returns-2 : tie.Need-returns-2
-returns-2 c = (rw (c .before .before .before .before .before .if1 .left) (c .before .before .put-bytes2 .ensures), omega arith)
+returns-2 c = rw (c .before .before .before .before .before .if1 .left) (c .before .before .put-bytes2 .ensures)
 
 pub put-mark-spec : {M : Type 1} → statement M
 put-mark-spec =

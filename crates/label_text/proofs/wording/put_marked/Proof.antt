@@ -1,5 +1,4 @@
 -- `put_marked` meets its contract.
-use native.Mathlib.Omega.{arith}
 use borrow.Author.Needs.{needs}
 use Rattle.label_text.specs.Wording.{markedText}
 use Rattle.text.proofs.Runs.{put-then}
@@ -18,7 +17,7 @@ same-length c = search needs
 returns : tie.Need-returns
 unfolding markedText
 returns c =
-    (put-then (c .before .before .before .before .before .before .put-cell .ensures .0) (c .before .before .put-mark .ensures .0), omega arith)
+    put-then (c .before .before .before .before .before .before .put-cell .ensures) (c .before .before .put-mark .ensures)
 
 pub put-marked-spec : {M : Type 1} → statement M
 put-marked-spec = tie.close (tie.spec put-cell-requires put-mark-requires same-length returns)

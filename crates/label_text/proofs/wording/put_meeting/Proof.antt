@@ -1,5 +1,4 @@
 -- `put_meeting` meets its contract.
-use native.Mathlib.Omega.{arith}
 use borrow.Author.Needs.{needs}
 use Rattle.label_text.specs.Wording.{meetLine}
 use Rattle.text.proofs.Runs.{put-then}
@@ -29,12 +28,10 @@ unfolding meetLine
 returns c =
     let second = c .before .before .before .before .before .before in
     let meets = second .before .before .before .before in
-    let first = meets .before .before .before .before .before in (
-      put-then
-          (put-then (put-then (first .put-marked .ensures .0) (meets .put-bytes .ensures)) (second .put-marked2 .ensures .0))
-          (c .before .before .put-newline .ensures),
-      omega arith,
-    )
+    let first = meets .before .before .before .before .before in
+    put-then
+    (put-then (put-then (first .put-marked .ensures) (meets .put-bytes .ensures)) (second .put-marked2 .ensures))
+    (c .before .before .put-newline .ensures)
 
 pub put-meeting-spec : {M : Type 1} → statement M
 put-meeting-spec =

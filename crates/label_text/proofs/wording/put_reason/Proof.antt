@@ -1,7 +1,6 @@
 -- `put_reason` meets its contract: the first number that it is.
 use borrow.Author.Needs.{needs}
 use borrow.Author.Tests.{eq-eqb, ne-eqb}
-use native.Mathlib.Omega.{arith}
 use Rattle.label_text.specs.Wording.{reasonText}
 use Rattle.label_text.proofs.wording.put_reason.Statement.{statement}
 use Rattle.label_text.proofs.wording.put_reason.Tie as tie
@@ -19,7 +18,7 @@ returns : tie.Need-returns
 unfolding reasonText
 returns c =
     let asked = c .before .before .before .before .before in
-    (rw (eq-eqb _ _ (asked .if1 .taken)) (c .before .before .put-bytes .ensures), omega arith)
+    rw (eq-eqb _ _ (asked .if1 .taken)) (c .before .before .put-bytes .ensures)
 
 slice-aggregate-put-bytes-2 : tie.Need-slice-aggregate-put-bytes-2
 slice-aggregate-put-bytes-2 c = search needs
@@ -33,10 +32,8 @@ same-length-2 c = search needs
 returns-2 : tie.Need-returns-2
 unfolding reasonText
 returns-2 c =
-    let asked = c .before .before .before .before .before in (
-      rw (ne-eqb _ _ (asked .before .if1 .left), eq-eqb _ _ (asked .if2 .taken)) (c .before .before .put-bytes2 .ensures),
-      omega arith,
-    )
+    let asked = c .before .before .before .before .before in
+    rw (ne-eqb _ _ (asked .before .if1 .left), eq-eqb _ _ (asked .if2 .taken)) (c .before .before .put-bytes2 .ensures)
 
 slice-aggregate-put-bytes-3 : tie.Need-slice-aggregate-put-bytes-3
 slice-aggregate-put-bytes-3 c = search needs
@@ -50,15 +47,13 @@ same-length-3 c = search needs
 returns-3 : tie.Need-returns-3
 unfolding reasonText
 returns-3 c =
-    let asked = c .before .before .before .before .before in (
-      rw (
-        ne-eqb _ _ (asked .before .before .if1 .left),
-        ne-eqb _ _ (asked .before .if2 .left),
-        eq-eqb _ _ (asked .if3 .taken),
-      )
-          (c .before .before .put-bytes3 .ensures),
-      omega arith,
+    let asked = c .before .before .before .before .before in
+    rw (
+      ne-eqb _ _ (asked .before .before .if1 .left),
+      ne-eqb _ _ (asked .before .if2 .left),
+      eq-eqb _ _ (asked .if3 .taken),
     )
+    (c .before .before .put-bytes3 .ensures)
 
 slice-aggregate-put-bytes-4 : tie.Need-slice-aggregate-put-bytes-4
 slice-aggregate-put-bytes-4 c = search needs
@@ -72,15 +67,13 @@ same-length-4 c = search needs
 returns-4 : tie.Need-returns-4
 unfolding reasonText
 returns-4 c =
-    let asked = c .before .before .before .before .before in (
-      rw (
-        ne-eqb _ _ (asked .before .before .if1 .left),
-        ne-eqb _ _ (asked .before .if2 .left),
-        ne-eqb _ _ (asked .if3 .left),
-      )
-          (c .before .before .put-bytes4 .ensures),
-      omega arith,
+    let asked = c .before .before .before .before .before in
+    rw (
+      ne-eqb _ _ (asked .before .before .if1 .left),
+      ne-eqb _ _ (asked .before .if2 .left),
+      ne-eqb _ _ (asked .if3 .left),
     )
+    (c .before .before .put-bytes4 .ensures)
 
 pub put-reason-spec : {M : Type 1} → statement M
 put-reason-spec =

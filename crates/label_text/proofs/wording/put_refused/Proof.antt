@@ -38,8 +38,8 @@ returns c =
     let told = number .before .before .before .before in
     put-then
     (put-then
-    (put-then (put-then (told .put-bytes .ensures) (number .put-number .ensures .0)) (colon .put-bytes2 .ensures))
-    (reason .put-reason .ensures .0))
+    (put-then (put-then (told .put-bytes .ensures) (number .put-number .ensures)) (colon .put-bytes2 .ensures))
+    (reason .put-reason .ensures))
     (c .before .before .put-newline .ensures)
 
 pub put-refused-spec : {M : Type 1} → statement M

@@ -34,8 +34,8 @@ unfolding acceptedLine
 returns c =
     put-then
     (put-then
-    (put-then (put-then (put-then (c .before .before .before .before .before .before .before .before .before .before .before .before .before .before .before .before .before .before .before .before .before .before .before .put-start .ensures .0) (c .before .before .before .before .before .before .before .before .before .before .before .before .before .before .before .before .before .before .before .put-three .ensures .0)) (c .before .before .before .before .before .before .before .before .before .before .before .before .before .before .before .put-status .ensures .0)) (c .before .before .before .before .before .before .before .before .before .before .put-number .ensures .0))
-    (c .before .before .before .before .before .before .put-word .ensures .0))
+    (put-then (put-then (put-then (c .before .before .before .before .before .before .before .before .before .before .before .before .before .before .before .before .before .before .before .before .before .before .before .put-start .ensures) (c .before .before .before .before .before .before .before .before .before .before .before .before .before .before .before .before .before .before .before .put-three .ensures)) (c .before .before .before .before .before .before .before .before .before .before .before .before .before .before .before .put-status .ensures)) (c .before .before .before .before .before .before .before .before .before .before .put-number .ensures))
+    (c .before .before .before .before .before .before .put-word .ensures))
     (c .before .before .put-newline .ensures)
 
 pub put-accepted-spec : {M : Type 1} → statement M

@@ -19,7 +19,7 @@ same-length c = search needs
 
 returns : tie.Need-returns
 unfolding namedLine
-returns c = put-then (put-then (c .before .before .before .before .before .before .before .before .before .before .put-bytes .ensures) (c .before .before .before .before .before .before .put-number .ensures .0)) (c .before .before .put-newline .ensures)
+returns c = put-then (put-then (c .before .before .before .before .before .before .before .before .before .before .put-bytes .ensures) (c .before .before .before .before .before .before .put-number .ensures)) (c .before .before .put-newline .ensures)
 
 pub put-named-spec : {M : Type 1} → statement M
 put-named-spec =

@@ -1,25 +1,65 @@
 -- `put_number` meets its contract.
 use native.Mathlib.Omega.{arith}
 use borrow.Author.Needs.{needs}
-use Rattle.text.proofs.Runs.{put-cons}
+use Rattle.text.specs.Text.{decimalText}
+use Rattle.text.proofs.Runs.{put-out, column-here}
+use Rattle.text.proofs.Numerals.{length-digits, length-decimal}
 use Rattle.text.proofs.line.put_number.Statement.{statement}
 use Rattle.text.proofs.line.put_number.Tie as tie
+
+places-requires : tie.Need-places-requires
+places-requires c κs = search needs
+
+add-after : tie.Need-add-after
+add-after c = search needs
+
+after-requires : tie.Need-after-requires
+after-requires c κs = search needs
+
+returns : tie.Need-returns
+returns c =
+    let far = c .before in
+    put-out (omega arith) (far .if1 .taken) (rw (length-decimal, ← (far .before .places .ensures .0)) (omega (arith, c .after .ensures)))
 
 put-byte-requires : tie.Need-put-byte-requires
 put-byte-requires c κs = search needs
 
-add-put-decimal : tie.Need-add-put-decimal
-add-put-decimal c = search needs
+add-put-digits : tie.Need-add-put-digits
+add-put-digits c = search needs
 
-put-decimal-requires : tie.Need-put-decimal-requires
-put-decimal-requires c κs = search needs
+put-digits-requires : tie.Need-put-digits-requires
+put-digits-requires c κs = search needs
+
+add-result : tie.Need-add-result
+add-result c = search needs
+
+add-result-2 : tie.Need-add-result-2
+add-result-2 c = search needs
 
 same-length : tie.Need-same-length
 same-length c = search needs
 
-returns : tie.Need-returns
-returns c = (put-cons (c .before .before .before .before .before .before .put-byte .ensures) (c .before .before .put-decimal .ensures .0), omega arith)
+returns-2 : tie.Need-returns-2
+unfolding decimalText
+returns-2 c =
+    let digits = c .before .before in
+    let space = digits .before .before .before .before in
+    let counted = space .before .before .before .places in
+    let k = counted .ensures .0 in
+    column-here (counted .result) (omega arith) (omega arith) (rw (length-digits, k)) (space .put-byte .ensures) (rw (digits .put-digits .ensures, k)) (omega arith)
 
 pub put-number-spec : {M : Type 1} → statement M
 put-number-spec =
-    tie.close (tie.spec put-byte-requires add-put-decimal put-decimal-requires same-length returns)
+    tie.close
+    (tie.spec
+    places-requires
+    add-after
+    after-requires
+    returns
+    put-byte-requires
+    add-put-digits
+    put-digits-requires
+    add-result
+    add-result-2
+    same-length
+    returns-2)

@@ -1,5 +1,4 @@
 -- `put_start` meets its contract.
-use native.Mathlib.Omega.{arith}
 use borrow.Author.Needs.{needs}
 use Rattle.text.specs.Line.{startText}
 use Rattle.text.proofs.Runs.{put-then}
@@ -17,7 +16,7 @@ same-length c = search needs
 
 returns : tie.Need-returns
 unfolding startText
-returns c = (put-then (c .before .before .before .before .before .before .put-decimal .ensures .0) (c .before .before .put-number .ensures .0), omega arith)
+returns c = put-then (c .before .before .before .before .before .before .put-decimal .ensures) (c .before .before .put-number .ensures)
 
 pub put-start-spec : {M : Type 1} → statement M
 put-start-spec = tie.close (tie.spec put-decimal-requires put-number-requires same-length returns)

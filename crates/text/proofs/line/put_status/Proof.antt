@@ -1,5 +1,4 @@
 -- `put_status` meets its contract, by the mark that says whether a status was sent.
-use native.Mathlib.Omega.{arith}
 use borrow.Author.Needs.{needs}
 use Rattle.text.specs.Line.{statusText, noneText}
 use Rattle.text.proofs.line.put_status.Statement.{statement}
@@ -19,14 +18,14 @@ same-length c = search needs
 
 returns : tie.Need-returns
 unfolding statusText
-returns c = (rw (c .before .before .before .before .if1 .taken) (c .before .before .put-word .ensures .0), omega arith)
+returns c = rw (c .before .before .before .before .if1 .taken) (c .before .before .put-word .ensures)
 
 same-length-2 : tie.Need-same-length-2
 same-length-2 c = search needs
 
 returns-2 : tie.Need-returns-2
 unfolding statusText noneText
-returns-2 c = (rw (c .before .before .before .before .before .if1 .left) (c .before .before .put-bytes .ensures), omega arith)
+returns-2 c = rw (c .before .before .before .before .before .if1 .left) (c .before .before .put-bytes .ensures)
 
 pub put-status-spec : {M : Type 1} → statement M
 put-status-spec =

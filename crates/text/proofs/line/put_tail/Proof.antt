@@ -1,16 +1,16 @@
 -- `put_tail` meets its contract. No tail puts nothing.
 use native.Mathlib.Omega.{arith}
-use mathlib.Core.Path.{refl}
 use borrow.Author.Needs.{needs}
 use borrow.Author.Tests.{eq-eqb, ne-eqb}
 use Rattle.text.specs.Line.{tailLine}
+use Rattle.text.proofs.Runs.{put-none}
 use Rattle.text.proofs.line.put_tail.Statement.{statement}
 use Rattle.text.proofs.line.put_tail.Tie as tie
 
 returns : tie.Need-returns
 unfolding tailLine
 returns c =
-    simp (eq-eqb _ _ (c .if1 .taken)) (record { bytes = refl; place = omega arith })
+    simp (eq-eqb _ _ (c .if1 .taken)) (put-none (omega arith) (omega arith))
 
 slice-aggregate-put-named : tie.Need-slice-aggregate-put-named
 slice-aggregate-put-named c = search needs

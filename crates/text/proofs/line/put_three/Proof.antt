@@ -1,5 +1,4 @@
 -- `put_three` meets its contract.
-use native.Mathlib.Omega.{arith}
 use borrow.Author.Needs.{needs}
 use Rattle.text.specs.Line.{threeWords}
 use Rattle.text.proofs.Runs.{put-then}
@@ -20,7 +19,7 @@ same-length c = search needs
 
 returns : tie.Need-returns
 unfolding threeWords
-returns c = (put-then (put-then (c .before .before .before .before .before .before .before .before .before .before .put-word .ensures .0) (c .before .before .before .before .before .before .put-word2 .ensures .0)) (c .before .before .put-word3 .ensures .0), omega arith)
+returns c = put-then (put-then (c .before .before .before .before .before .before .before .before .before .before .put-word .ensures) (c .before .before .before .before .before .before .put-word2 .ensures)) (c .before .before .put-word3 .ensures)
 
 pub put-three-spec : {M : Type 1} → statement M
 put-three-spec =

@@ -1,9 +1,15 @@
 -- `put_word` meets its contract.
 use native.Mathlib.Omega.{arith}
 use borrow.Author.Needs.{needs}
-use Rattle.text.proofs.Runs.{put-cons, length-hex}
+use Rattle.text.proofs.Runs.{length-hex, put-out, column-here}
 use Rattle.text.proofs.line.put_word.Statement.{statement}
 use Rattle.text.proofs.line.put_word.Tie as tie
+
+after-requires : tie.Need-after-requires
+after-requires c κs = search needs
+
+returns : tie.Need-returns
+returns c = put-out (omega arith) (c .before .if1 .taken) (rw length-hex (c .after .ensures))
 
 put-byte-requires : tie.Need-put-byte-requires
 put-byte-requires c κs = search needs
@@ -14,12 +20,25 @@ add-put-hex c = search needs
 put-hex-requires : tie.Need-put-hex-requires
 put-hex-requires c κs = search needs
 
+add-result : tie.Need-add-result
+add-result c = search needs
+
 same-length : tie.Need-same-length
 same-length c = search needs
 
-returns : tie.Need-returns
-returns c = (put-cons (c .before .before .before .before .before .before .put-byte .ensures) (c .before .before .put-hex .ensures), omega (arith, length-hex (c .before .before .before .before .before .before .before .before .before .args .w)))
+returns-2 : tie.Need-returns-2
+returns-2 c =
+    column-here 4 (omega arith) (omega arith) (length-hex _) (c .before .before .before .before .before .before .put-byte .ensures) (c .before .before .put-hex .ensures) (omega arith)
 
 pub put-word-spec : {M : Type 1} → statement M
 put-word-spec =
-    tie.close (tie.spec put-byte-requires add-put-hex put-hex-requires same-length returns)
+    tie.close
+    (tie.spec
+    after-requires
+    returns
+    put-byte-requires
+    add-put-hex
+    put-hex-requires
+    add-result
+    same-length
+    returns-2)

@@ -24,7 +24,7 @@ loop-again : tie.Need-loop-again Inv-loop μ-loop
 loop-again c = counted-more _ _ _ (c .before .loop .inv) (c .loop-test .taken)
 
 returns : tie.Need-returns Inv-loop μ-loop
-returns c = counted-all _ _ _ (c .before .loop .inv) (c .loop-test .left)
+returns c = (counted-all _ _ _ (c .before .loop .inv) (c .loop-test .left), c .before .loop .inv .most)
 
 pub places-spec : {M : Type 1} → statement M
 places-spec = tie.close (tie.spec Inv-loop μ-loop loop-holds add-k loop-less loop-again returns)

@@ -6,7 +6,7 @@ use lib.ListN.{length, take}
 use lib.Seq.{sets, length-sets, take-length}
 use denote.Ref.{now}
 use borrow.Author.Needs.{needs}
-use Rattle.text.proofs.Runs.{sets-more}
+use Rattle.text.proofs.Runs.{sets-more, put-out, put-here}
 use Rattle.text.proofs.text.put_bytes.Statement.{statement}
 use Rattle.text.proofs.text.put_bytes.Tie as tie
 
@@ -15,6 +15,12 @@ Inv-loop out₀ at s i₀ out i = (i ≤ length s) × (out ≡ sets out₀ at (t
 
 abbrev μ-loop : tie.MeasureT-loop
 μ-loop out₀ at s i₀ out i = length s - i
+
+after-requires : tie.Need-after-requires Inv-loop μ-loop
+after-requires c κs = search needs
+
+returns : tie.Need-returns Inv-loop μ-loop
+returns c = put-out (omega arith) (c .before .if1 .taken) (c .after .ensures)
 
 loop-holds : tie.Need-loop-holds Inv-loop μ-loop
 loop-holds c = (omega arith, refl)
@@ -37,7 +43,7 @@ loop-less c = search needs
 loop-again : tie.Need-loop-again Inv-loop μ-loop
 loop-again c =
     let t = c .before .before .before .before .before in
-    let h : t .before .loop .i < length (now (t .before .before .before .before .args .s)) = t .loop-test .taken in
+    let h : t .before .loop .i < length (now (t .before .before .before .before .before .args .s)) = t .loop-test .taken in
     (omega arith, rw (sets-more, c .before .before .put-byte .ensures, t .before .loop .inv .1))
 
 add-result : tie.Need-add-result Inv-loop μ-loop
@@ -46,10 +52,10 @@ add-result c = search needs
 same-length : tie.Need-same-length Inv-loop μ-loop
 same-length c = rw (c .before .loop .inv .1, length-sets)
 
-returns : tie.Need-returns Inv-loop μ-loop
-returns c =
-    let e : c .before .loop .i ≡ length (now (c .before .before .before .before .args .s)) = omega arith in
-    record { bytes = rw (e, take-length) at (c .before .loop .inv .1); place = omega arith }
+returns-2 : tie.Need-returns-2 Inv-loop μ-loop
+returns-2 c =
+    let e : c .before .loop .i ≡ length (now (c .before .before .before .before .before .args .s)) = omega arith in
+    put-here (omega arith) (omega arith) (rw (e, take-length) at (c .before .loop .inv .1)) (omega arith)
 
 pub put-bytes-spec : {M : Type 1} → statement M
 put-bytes-spec =
@@ -57,6 +63,8 @@ put-bytes-spec =
     (tie.spec
     Inv-loop
     μ-loop
+    after-requires
+    returns
     loop-holds
     add-put-byte
     shared-slice-read-put-byte
@@ -66,4 +74,4 @@ put-bytes-spec =
     loop-again
     add-result
     same-length
-    returns)
+    returns-2)

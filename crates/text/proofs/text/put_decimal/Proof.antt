@@ -2,31 +2,46 @@
 use native.Mathlib.Omega.{arith}
 use borrow.Author.Needs.{needs}
 use Rattle.text.specs.Text.{decimalText}
-use Rattle.text.proofs.Numerals.{places-most, length-digits}
+use Rattle.text.proofs.Runs.{put-out, put-here}
+use Rattle.text.proofs.Numerals.{length-digits, length-decimal}
 use Rattle.text.proofs.text.put_decimal.Statement.{statement}
 use Rattle.text.proofs.text.put_decimal.Tie as tie
 
 places-requires : tie.Need-places-requires
 places-requires c κs = search needs
 
+after-requires : tie.Need-after-requires
+after-requires c κs = search needs
+
+returns : tie.Need-returns
+returns c = put-out (omega arith) (c .before .if1 .taken) (rw (length-decimal, ← (c .before .before .places .ensures .0)) (c .after .ensures))
+
 put-digits-requires : tie.Need-put-digits-requires
-put-digits-requires c κs = omega (arith, places-most 19 (c .before .before .before .args .n))
+put-digits-requires c κs = search needs
 
 add-result : tie.Need-add-result
-add-result c = omega (arith, places-most 19 (c .before .before .before .before .before .before .args .n))
+add-result c = search needs
 
 same-length : tie.Need-same-length
 same-length c = search needs
 
-returns : tie.Need-returns
+returns-2 : tie.Need-returns-2
 unfolding decimalText
-returns c =
-    let k = c .before .before .before .before in
-    let e = k .places .ensures in (
-      record { bytes = rw (c .before .before .put-digits .ensures, e); place = rw (length-digits, e) },
-      omega (arith, places-most 19 (k .before .before .args .n)),
-    )
+returns-2 c =
+    let k = c .before .before .before .before .before in
+    let e = k .places .ensures .0 in
+    put-here (omega arith) (rw (length-digits, ← e) (omega arith))
+    (rw (c .before .before .put-digits .ensures, e))
+    (rw (length-digits, e))
 
 pub put-decimal-spec : {M : Type 1} → statement M
 put-decimal-spec =
-    tie.close (tie.spec places-requires put-digits-requires add-result same-length returns)
+    tie.close
+    (tie.spec
+    places-requires
+    after-requires
+    returns
+    put-digits-requires
+    add-result
+    same-length
+    returns-2)

@@ -1,6 +1,6 @@
 -- `put_hex` meets its contract.
 use borrow.Author.Needs.{needs}
-use Rattle.text.proofs.Runs.{sets-hex, length-hex}
+use Rattle.text.proofs.Runs.{sets-hex}
 use Rattle.text.proofs.text.put_hex.Statement.{statement}
 use Rattle.text.proofs.text.put_hex.Tie as tie
 
@@ -37,9 +37,6 @@ hex-digit-requires-4 c κs = search needs
 put-byte-requires-4 : tie.Need-put-byte-requires-4
 put-byte-requires-4 c κs = search needs
 
-add-result : tie.Need-add-result
-add-result c = search needs
-
 same-length : tie.Need-same-length
 same-length c = search needs
 
@@ -49,20 +46,17 @@ returns c =
     let third = fourth .before .before .before .before .before in
     let second = third .before .before .before .before .before in
     let first = second .before .before .before .before .before in
-    record {
-      bytes = rw (
-        sets-hex,
-        fourth .put-byte4 .ensures,
-        fourth .before .hex-digit4 .ensures,
-        third .put-byte3 .ensures,
-        third .before .hex-digit3 .ensures,
-        second .put-byte2 .ensures,
-        second .before .hex-digit2 .ensures,
-        first .put-byte .ensures,
-        first .before .hex-digit .ensures,
-      );
-      place = rw length-hex;
-    }
+    rw (
+      sets-hex,
+      fourth .put-byte4 .ensures,
+      fourth .before .hex-digit4 .ensures,
+      third .put-byte3 .ensures,
+      third .before .hex-digit3 .ensures,
+      second .put-byte2 .ensures,
+      second .before .hex-digit2 .ensures,
+      first .put-byte .ensures,
+      first .before .hex-digit .ensures,
+    )
 
 pub put-hex-spec : {M : Type 1} → statement M
 put-hex-spec =
@@ -79,6 +73,5 @@ put-hex-spec =
     add-put-byte-3
     hex-digit-requires-4
     put-byte-requires-4
-    add-result
     same-length
     returns)

@@ -2,8 +2,8 @@
 use native.Mathlib.Omega.{arith}
 use borrow.Author.Needs.{needs}
 use Rattle.trace.specs.Output.{lastLines}
-use Rattle.text.proofs.Lines.{tail-most}
-use Rattle.text.proofs.Runs.{put-then}
+use Rattle.text.proofs.Runs.{put-then, put-first}
+use Rattle.trace.proofs.Printed.{last-most}
 use Rattle.trace.proofs.output.put_last_lines.Statement.{statement}
 use Rattle.trace.proofs.output.put_last_lines.Tie as tie
 
@@ -11,15 +11,18 @@ put-tail-requires : tie.Need-put-tail-requires
 put-tail-requires c κs = search needs
 
 put-end-requires : tie.Need-put-end-requires
-put-end-requires c κs =
-    omega (arith, c .before .before .before .put-tail .ensures .place, tail-most (c .before .before .before .before .before .before .args .tail))
+put-end-requires c κs = search needs
 
 same-length : tie.Need-same-length
 same-length c = search needs
 
 returns : tie.Need-returns
 unfolding lastLines
-returns c = put-then (c .before .before .before .before .before .before .put-tail .ensures) (c .before .before .put-end .ensures)
+returns c =
+    let first = c .before .before .before .before .before .before in
+    let given = first .before .before .before .args in
+    put-first (put-then (first .put-tail .ensures) (c .before .before .put-end .ensures))
+    (omega (arith, last-most (given .tail) (given .number)))
 
 pub put-last-lines-spec : {M : Type 1} → statement M
 put-last-lines-spec = tie.close (tie.spec put-tail-requires put-end-requires same-length returns)

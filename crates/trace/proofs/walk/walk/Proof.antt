@@ -6,7 +6,7 @@ use lib.ListN.{length}
 use denote.Ref.{now}
 use borrow.Author.Needs.{needs}
 use Rattle.trace.specs.Walk.{walkTo, walkStart, walkAll}
-use Rattle.trace.proofs.Walks.{Stands, stands-none, stands-more, stands-place, stands-back}
+use Rattle.trace.proofs.Walks.{Stands, stands-none, stands-more, stands-text, stands-back}
 use Rattle.trace.proofs.walk.walk.Statement.{statement}
 use Rattle.trace.proofs.walk.walk.Tie as tie
 
@@ -20,7 +20,7 @@ abbrev μ-loop : tie.MeasureT-loop
 μ-loop ram₀ reply₀ out₀ s number trace records w₀ i₀ ram reply out w i = records - i
 
 loop-holds : tie.Need-loop-holds Inv-loop μ-loop
-loop-holds c = (omega arith, (stands-none _ _ _ _ _ _ _, (refl, (refl, refl))))
+loop-holds c = (omega arith, (stands-none _ _ _ _ _ _ _ (omega arith), (refl, (refl, refl))))
 
 mul-at : tie.Need-mul-at Inv-loop μ-loop
 mul-at c = search needs
@@ -38,8 +38,7 @@ part-walk-one-end : tie.Need-part-walk-one-end Inv-loop μ-loop
 part-walk-one-end c = search needs
 
 walk-one-requires : tie.Need-walk-one-requires Inv-loop μ-loop
-walk-one-requires c κs =
-    omega (arith, stands-place _ _ _ _ (c .before .before .before .before .before .loop .inv .1 .0))
+walk-one-requires c κs = search needs
 
 add-i : tie.Need-add-i Inv-loop μ-loop
 add-i c = search needs
@@ -75,7 +74,8 @@ unfolding walkAll
 returns c =
     let e : c .before .loop .i ≡ length (now (c .before .before .before .before .before .before .args .trace)) / 80 = omega arith in
     let t = rw e at (c .before .loop .inv .1 .0) in
-    (stands-back t, (λ i. t .state i .ram, (λ i. t .state i .reply, t .text)))
+    let text = stands-text _ _ _ _ (omega arith) t in
+    (stands-back t text, (λ i. t .state i .ram, (λ i. t .state i .reply, text .bytes)))
 
 pub walk-spec : {M : Type 1} → statement M
 walk-spec =

@@ -1,0 +1,104 @@
+-- How long the label's text is: too short to reach the last place that can be counted.
+use Prim.Native.Nat.{ℕ, _+_, _*_, _%_, _^_, _<_, _≤_}
+use native.Mathlib.Omega.{arith}
+use mathlib.Core.Path.{_≡_}
+use mathlib.Core.Logic.{⊎-elim}
+use mathlib.Core.Bool.{Bool, true, false}
+use mathlib.Core.List.{List, [], _∷_, flatMap}
+use lib.ListN.{length, length-append}
+use lib.Dec.{eqb}
+use Rattle.words.proofs.Basics.{yes-or-no}
+use Rattle.words.specs.Number.{ramLength, badSettings, unsoundStack}
+use Rattle.words.specs.declared.settings.Settings.{Settings}
+use Rattle.memory.specs.declared.kind.Kind.{Kind}
+use Rattle.memory.specs.declared.kind.Kind.the-variants.{Receive, Transmit, Broadcast}
+use Rattle.memory.specs.Kind.{kindNumbered}
+use Rattle.area.specs.Area.{groundRefusal}
+use Rattle.label.specs.declared.one.Sharer.{Sharer}
+use Rattle.label.specs.Label.{meetingCells, meetingPairs, unsoundCells, sharerNumbered, cellRefusal}
+use Rattle.label.proofs.Most.{unsound-most, meeting-most, meeting-pairs-most}
+use Rattle.text.proofs.Numerals.{decimal-most}
+use Rattle.text.proofs.Lines.{named-most}
+use Rattle.label_text.specs.Wording.{kindName, cellText, markText, markedText, meetLine, pairLine, alsoText, unsoundLine, reasonText, refusedLine}
+use Rattle.label_text.specs.Printed.{pairsName, cellsName, areaLines, areaText, sharerLine, cellLines, oneCellText}
+
+kind-most : (kind : Kind) → length (kindName kind) ≤ 9
+kind-most Receive = omega arith
+kind-most Transmit = omega arith
+kind-most Broadcast = omega arith
+
+cell-most : (number : ℕ) → length (cellText number) ≤ 30
+unfolding cellText
+cell-most number = rw length-append (omega (arith, kind-most (kindNumbered number), decimal-most (number % 32)))
+
+mark-most : (writes : Bool) → length (markText writes) ≤ 9
+mark-most true = omega arith
+mark-most false = omega arith
+
+marked-most : (sharer : Sharer) → length (markedText sharer) ≤ 39
+unfolding markedText
+marked-most sharer = rw length-append (omega (arith, cell-most (sharer .cell), mark-most (sharer .writes)))
+
+meet-most : (cell other : Sharer) → length (meetLine cell other) ≤ 86
+unfolding meetLine
+meet-most cell other = simp length-append (omega (arith, marked-most cell, marked-most other))
+
+also-most : (number : ℕ) → length (alsoText number) ≤ 32
+unfolding alsoText
+also-most number = simp length-append (omega (arith, cell-most number))
+
+-- lines of which each has at most m bytes
+lines-most :
+    {A : Type 0} (line : A → List ℕ) (m : ℕ) → ((x : A) → length (line x) ≤ m) → (xs : List A) → length (flatMap line xs) ≤ m * length xs
+unfolding flatMap
+lines-most line m h [] = omega arith
+lines-most line m h (x ∷ xs) = rw length-append (omega (arith, h x, lines-most line m h xs))
+
+unsound-line-most : (cells : List ℕ) → length cells ≤ 90 → length (unsoundLine cells) ≤ 3000
+unfolding unsoundLine
+unsound-line-most [] h = omega arith
+unsound-line-most (x ∷ xs) h = simp length-append (omega (arith, cell-most x, lines-most alsoText 32 also-most xs))
+
+reason-most : (number : ℕ) → length (reasonText number) ≤ 18
+unfolding reasonText
+reason-most number =
+    ⊎-elim (λ (e : eqb number ramLength ≡ true). rw e (omega arith))
+    (λ (e : eqb number ramLength ≡ false). ⊎-elim (λ (f : eqb number badSettings ≡ true). rw (e, f) (omega arith))
+    (λ (f : eqb number badSettings ≡ false). ⊎-elim (λ (g : eqb number unsoundStack ≡ true). rw (e, f, g) (omega arith))
+    (λ (g : eqb number unsoundStack ≡ false). rw (e, f, g) (omega arith))
+    (yes-or-no (eqb number unsoundStack)))
+    (yes-or-no (eqb number badSettings)))
+    (yes-or-no (eqb number ramLength))
+
+refused-most : (number : ℕ) → length (refusedLine number) ≤ 49
+unfolding refusedLine
+refused-most number = simp length-append (omega (arith, decimal-most number, reason-most number))
+
+pub area-most : (ram : List ℕ) (s : Settings) → length (areaText ram s) < 2 ^ 64
+unfolding areaText areaLines
+area-most ram s =
+    let pairs = meetingPairs ram s in
+    ⊎-elim (λ (e : eqb (groundRefusal ram s) 0 ≡ true). rw e (simp length-append
+    (omega (
+      arith,
+      lines-most pairLine 86 (λ p. meet-most _ _) pairs,
+      meeting-pairs-most ram s,
+      unsound-line-most (unsoundCells ram s) (unsound-most ram s),
+      named-most pairsName (length pairs),
+    ))))
+    (λ (e : eqb (groundRefusal ram s) 0 ≡ false). rw e (omega (arith, refused-most (groundRefusal ram s))))
+    (yes-or-no (eqb (groundRefusal ram s) 0))
+
+pub cell-text-most : (ram : List ℕ) (s : Settings) (cell : ℕ) → length (oneCellText ram s cell) < 2 ^ 64
+unfolding oneCellText cellLines
+cell-text-most ram s cell =
+    let cells = meetingCells ram s cell in
+    ⊎-elim (λ (e : eqb (cellRefusal ram s cell) 0 ≡ true). rw e (rw length-append
+    (omega (
+      arith,
+      lines-most (sharerLine cell) 86 (λ other. meet-most _ _) cells,
+      meeting-most ram s cell,
+      named-most cellsName (length cells),
+    ))))
+    (λ (e : eqb (cellRefusal ram s cell) 0 ≡ false). rw e (omega (arith, refused-most (cellRefusal ram s cell))))
+    (yes-or-no (eqb (cellRefusal ram s cell) 0))

@@ -1,0 +1,19 @@
+-- `put_image_line` meets its contract.
+use native.Mathlib.Omega.{arith}
+use borrow.Author.Needs.{needs}
+use Rattle.text.proofs.Runs.{put-first}
+use Rattle.trace.proofs.Printed.{image-most}
+use Rattle.trace.proofs.output.put_image_line.Statement.{statement}
+use Rattle.trace.proofs.output.put_image_line.Tie as tie
+
+put-image-requires : tie.Need-put-image-requires
+put-image-requires c κs = search needs
+
+same-length : tie.Need-same-length
+same-length c = search needs
+
+returns : tie.Need-returns
+returns c = put-first (c .before .before .put-image .ensures) (omega (arith, image-most (c .before .before .before .before .before .args .bytes)))
+
+pub put-image-line-spec : {M : Type 1} → statement M
+put-image-line-spec = tie.close (tie.spec put-image-requires same-length returns)
