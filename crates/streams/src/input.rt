@@ -1,13 +1,12 @@
-// Standard input and output. What fails there is told on standard error, and a read that fails is told from the end of the input.
+// Standard input, buffer by buffer. A read that fails is told from the end of the input.
 ghost use Prim.Native.Nat.{_+_, _≤_};
 ghost use lib.ListN.{length};
 ghost use Rattle.io.specs.Counts.{Counts};
 use libc::STDERR_FILENO;
 use libc::STDIN_FILENO;
-use libc::STDOUT_FILENO;
 
 // How many bytes were read, and whether reading failed after them.
-pub(crate) struct Filled {
+pub struct Filled {
     pub got: usize,
     pub failed: bool,
 }
@@ -24,8 +23,9 @@ fn read_at(buffer: &mut [u8], at: usize) -> Filled
     }
 }
 
-// Reads until the buffer is full, the input ends or a read fails.
-pub(crate) fn fill(buffer: &mut [u8]) -> Filled
+// Reads until the buffer is full, the input ends or a read fails. What is read is for the system to say; never is it more than the
+// buffer holds.
+pub fn fill(buffer: &mut [u8]) -> Filled
     ensures { λ r. ⌜ Counts (r .got) (now (buffer .exit)) ⌝ }
 {
     let mut got: usize = 0;
@@ -43,15 +43,4 @@ pub(crate) fn fill(buffer: &mut [u8]) -> Filled
         got += more.got;
     }
     Filled { got, failed: false }
-}
-
-// Writes the text at the front of the buffer. Answers whether it could.
-pub(crate) fn print(out: &[u8], used: usize) -> bool
-    requires { ⌜ used ≤ length (now out) ⌝ }
-{
-    let written = io::write_all(STDOUT_FILENO, &out[..used]);
-    if !written {
-        io::write_all(STDERR_FILENO, b"writing failed\n");
-    }
-    written
 }

@@ -6,8 +6,8 @@ use lib.ListN.{length}
 use native.Mathlib.Omega.{arith}
 use borrow.Author.Needs.{needs}
 use Rattle.io.proofs.Counting.{counts}
-use Rattle.trace_program.proofs.streams.fill.Statement.{statement}
-use Rattle.trace_program.proofs.streams.fill.Tie as tie
+use Rattle.streams.proofs.input.fill.Statement.{statement}
+use Rattle.streams.proofs.input.fill.Tie as tie
 
 abbrev Inv-loop : tie.InvT-loop
 Inv-loop buffer₀ got₀ t4 buffer got = (length buffer ≡ length buffer₀) × (got ≤ length buffer)
