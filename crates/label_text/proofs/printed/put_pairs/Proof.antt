@@ -1,7 +1,7 @@
 -- `put_pairs` meets its contract. The loop's invariant: the lines of the first `i` pairs stand in the buffer.
 use borrow.Author.Needs.{needs}
 use denote.Ref.{now}
-use Prim.Native.Nat.{_+_, _-_, _*_, _≤_}
+use Prim.Native.Nat.{_-_, _≤_}
 use mathlib.Core.List.{flatMap}
 use lib.ListN.{length, take}
 use native.Mathlib.Omega.{arith}

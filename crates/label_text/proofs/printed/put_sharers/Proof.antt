@@ -1,7 +1,7 @@
 -- `put_sharers` meets its contract. The loop's invariant: the lines of the first `i` cells stand in the buffer.
 use borrow.Author.Needs.{needs}
 use native.Mathlib.Omega.{arith}
-use Prim.Native.Nat.{_-_, _*_, _≤_}
+use Prim.Native.Nat.{_-_, _≤_}
 use mathlib.Core.Path.{_≡_}
 use mathlib.Core.List.{flatMap}
 use lib.ListN.{take}
