@@ -2,9 +2,9 @@
 use Prim.Native.Nat.{ℕ}
 use mathlib.Core.Path.{_≡_, refl, sym, ap, _∙_}
 use mathlib.Core.Logic.{⊎-elim}
-use mathlib.Core.Bool.{true, false, cond}
+use mathlib.Core.Bool.{true, false}
 use mathlib.Core.List.{List, [], _∷_}
-use lib.ListN.{length, getD}
+use lib.ListN.{length, getD, replicate}
 use lib.Dec.{leb, eqb}
 use borrow.Author.Tests.{eq-eqb, ne-eqb}
 use Rattle.words.specs.declared.settings.Settings.{Settings}
@@ -13,7 +13,7 @@ use Rattle.words.proofs.Basics.{yes-or-no, eq-or-ne}
 use Rattle.words.proofs.Refusals.{numbered}
 use Rattle.message.specs.Heard.{Heard}
 use Rattle.who.specs.declared.origin.Who.{Who}
-use Rattle.who.specs.declared.origin.Who.the-variants.{Refused}
+use Rattle.who.specs.declared.origin.Who.the-variants.{Refused, AsInImage, Written}
 use Rattle.who.specs.declared.question.Standing.{Standing}
 use Rattle.who.specs.declared.table.Filling.{Filling}
 use Rattle.who.specs.declared.table.Filled.{Filled}
@@ -28,7 +28,14 @@ use Rattle.lent.specs.Over.{over}
 use Rattle.boundary.specs.Origins.{partWords, LentTables, tablesAfter}
 use Rattle.boundary.proofs.NotTold.{fill-refused, not-told, who-refused}
 use Rattle.demands.specs.First.{rising, Answered, AskAnswered, GoOnAnswered, entryTests, ToldAnswered}
-use Rattle.demands.proofs.Answered.{answered, by-number}
+use Rattle.demands.proofs.Answered.{answered}
+
+-- an answer with a number is that refusal
+refusal-told : (w : Who) → (valuesOf w .number ≡ 0 → ⊥) → w ≡ Refused (valuesOf w .number)
+unfolding valuesOf
+refusal-told (Refused number) m = refl
+refusal-told AsInImage m = absurd (m refl)
+refusal-told (Written origin) m = absurd (m refl)
 
 -- ---- one address
 
@@ -37,13 +44,12 @@ pub ask-answered :
     back ≡ asked s a hs ram .at .who →
     after ≡ asked s a hs ram .ram →
     AskAnswered s a ram back after
-unfolding whoRefusal refusedAt
+unfolding whoRefusal
 ask-answered s a hs ram back after e f =
-    let whole = who-put-this-here s a hs ram in
     let told : valuesOf back .number ≡ whoRefusal (length ram) s a =
-    ap (λ (w : Who). valuesOf w .number) e ∙ whole .number in
+    ap (λ (w : Who). valuesOf w .number) e ∙ who-put-this-here s a hs ram .number in
     answered (whoTests (length ram) s a) (valuesOf back .number) back _ ram after refl refl told
-    (λ m. e ∙ ap (λ (r : Replay). r .at .who) (whole .refused (λ z. m (told ∙ z))) ∙ ap (λ (n : ℕ). Refused n) (sym told))
+    (refusal-told back)
     (λ m. f ∙ who-refused s a hs ram (λ z. m (told ∙ z)))
 
 -- an answer that is no refusal is none after more records
@@ -114,36 +120,22 @@ unfolding entryOf valuesOf
 entry-told number mark =
     ⊎-elim (λ (t : eqb number 0 ≡ true). rw t) (λ (t : eqb number 0 ≡ false). rw t) (yes-or-no (eqb number 0))
 
-entry-cases :
-    (numbers marks : List ℕ) (a : ℕ) →
-    entryAt numbers marks a
-    ≡ cond (eqb (firstOf (entryTests numbers a)) 0) (entryOf (getD numbers a 0) (getD marks a 0))
-    (Refused (firstOf (entryTests numbers a)))
-unfolding entryAt
-entry-cases numbers marks a =
+entry-number : (numbers marks : List ℕ) (a : ℕ) → valuesOf (entryAt numbers marks a) .number ≡ firstOf (entryTests numbers a)
+unfolding entryAt valuesOf firstOf
+entry-number numbers marks a =
     let beyond = leb (length numbers) a in
-    ⊎-elim (λ (t : beyond ≡ true). rw t) (λ (t : beyond ≡ false). rw t) (yes-or-no beyond)
+    ⊎-elim (λ (t : beyond ≡ true). rw t) (λ (t : beyond ≡ false). rw t (entry-told (getD numbers a 0) (getD marks a 0)))
+    (yes-or-no beyond)
 
 pub entry-answered :
     (numbers marks : List ℕ) (a : ℕ) (back : Who) →
     back ≡ entryAt numbers marks a →
     Answered (entryTests numbers a) (valuesOf back .number) back (λ n. Refused n) numbers numbers
-unfolding valuesOf
 entry-answered numbers marks a back e =
-    by-number (entryTests numbers a) (λ (w : Who). valuesOf w .number) back
-    (entryOf (getD numbers a 0) (getD marks a 0))
-    (λ (n : ℕ). Refused n) numbers
-    refl refl
-    (entry-told (getD numbers a 0) (getD marks a 0))
-    (λ n. refl)
-    (e ∙ entry-cases numbers marks a)
-
-entry-number : (numbers marks : List ℕ) (a : ℕ) → valuesOf (entryAt numbers marks a) .number ≡ firstOf (entryTests numbers a)
-unfolding entryAt valuesOf
-entry-number numbers marks a =
-    let beyond = leb (length numbers) a in
-    ⊎-elim (λ (t : beyond ≡ true). rw t) (λ (t : beyond ≡ false). rw t (entry-told (getD numbers a 0) (getD marks a 0)))
-    (yes-or-no beyond)
+    answered (entryTests numbers a) (valuesOf back .number) back (λ (n : ℕ). Refused n) numbers numbers refl refl
+    (ap (λ (w : Who). valuesOf w .number) e ∙ entry-number numbers marks a)
+    (refusal-told back)
+    (λ m. refl)
 
 -- ---- for callers in C and Rust
 
@@ -159,7 +151,11 @@ told-answered :
     ToldAnswered tests number last part last′ part′ before after
 told-answered tests w number last part last′ part′ before after order some n told l p kept =
     answered tests number (last′ ∷ part′ ∷ []) _ before after order some (n ∙ told)
-    (λ m. let none = not-told w (λ z. m (n ∙ z)) in rw (l, p, none .0, none .1))
+    (λ m.
+    let none = not-told w (λ z. m (n ∙ z)) in
+    let l₁ : last′ ≡ over last (0 ∷ []) = l ∙ ap (λ (k : ℕ). over last (k ∷ [])) (none .0) in
+    let p₁ : part′ ≡ over part (replicate 3 0) = p ∙ ap (λ (xs : List ℕ). over part xs) (none .1) in
+    λ i. l₁ i ∷ p₁ i ∷ [])
     (λ m. kept (λ z. m (n ∙ z)))
 
 pub exported-who-answered :
