@@ -9,7 +9,7 @@ use Rattle.message.proofs.serve
 use Rattle.trace.proofs.walk
 use Rattle.who.specs.Replay.{heardIn}
 use Rattle.who.proofs.question
-use Rattle.who.proofs.table
+use Rattle.tables.proofs.table
 use Rattle.view.proofs.view
 use Rattle.lent.specs.Setup.{settingsFrom}
 use Rattle.lent.specs.Values.{valueFrom}

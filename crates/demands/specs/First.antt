@@ -41,7 +41,7 @@ use Rattle.who.specs.declared.question.Standing.{Standing}
 use Rattle.who.specs.Tests.{replayTests, whoTests}
 use Rattle.who.specs.Values.{valuesOf}
 use Rattle.who.proofs.question
-use Rattle.who.proofs.table
+use Rattle.tables.proofs.table
 use Rattle.view.specs.declared.view.Taken.{Taken}
 use Rattle.view.proofs.view
 use Rattle.lent.specs.Over.{over}

@@ -2,7 +2,7 @@
 use Prim.Native.Nat.{ℕ, zero, suc, _+_, _-_, _%_, _<_, _≤_}
 use native.Mathlib.Nat.{add-zero, add-suc}
 use native.Mathlib.Omega.{arith}
-use mathlib.Core.Path.{_≡_, refl, ap}
+use mathlib.Core.Path.{_≡_, refl}
 use mathlib.Core.Logic.{⊎-elim}
 use mathlib.Core.Bool.{Bool, true, false, not, cond, _&&_, and-true}
 use mathlib.Core.List.{List, [], _∷_}
@@ -15,11 +15,9 @@ use Rattle.cells.specs.Stack.{stackWindow}
 use Rattle.cells.specs.Cell.{soundCell}
 use Rattle.area.specs.Area.{isRead, isUnsound, cellNumbered}
 use Rattle.area.proofs.Listed.{read-listed}
-use Rattle.label.specs.declared.one.CellLabel.{CellLabel}
-use Rattle.label.specs.declared.whole.AreaLabel.{AreaLabel}
 use Rattle.label.specs.Listing.{above, passing, pairsWith, pairsBelow}
 use Rattle.label.specs.Span.{readInVain}
-use Rattle.label.specs.Label.{takesPart, cellsMeet, meetingCells, meetingPairs, unsoundCells, cellAnswer, areaAnswer}
+use Rattle.label.specs.Label.{takesPart, cellsMeet, meetingCells, meetingPairs, unsoundCells}
 use Rattle.label.proofs.Turns.{passing-yes, passing-same, passing-none}
 use Rattle.label.proofs.Meeting.{part-facts, part-below, met-facts}
 
@@ -154,22 +152,14 @@ module _ (ram : List ℕ) (s : Settings) where
       and-both (dataNumber a) (dataNumber b) (part-data a (f .cell-part)) (part-data b (f .other-part))) 96 in
       omega (arith, allPairs)
 
-  -- so there is room for a cell that is to be listed
-  pub sharer-fits :
-      (cell other : ℕ) (label : CellLabel) → label ≡ cellAnswer 0 (passing (cellsMeet ram s cell) other) → other < 96 →
-      cellsMeet ram s cell other ≡ true → label .count < 89
-  unfolding meetingCells cellAnswer
-  sharer-fits cell other label e l m =
-      let room = place-before (cellsMeet ram s cell) other 96 l m in
-      let count = ap (λ (x : CellLabel). x .count) e in
-      omega (arith, meeting-most cell)
+-- so there is room for a number that is to be listed
+pub listed-fits :
+    (t : ℕ → Bool) (n end most count : ℕ) → count ≡ 0 + length (passing t n) → length (passing t end) ≤ most → n < end →
+    t n ≡ true → count < most
+listed-fits t n end most count e h l m =
+    let room = place-before t n end l m in
+    omega arith
 
-pub unsound-fits :
-    (s : Settings) (ends : List ℕ) (n pairs : ℕ) (label : AreaLabel) →
-    label ≡ areaAnswer 0 (passing (readInVain s ends) n) pairs → n < 96 → readInVain s ends n ≡ true →
-    label .«unsound_count» < 90
-unfolding areaAnswer readInVain
-unsound-fits s ends n pairs label e l m =
-    let room = place-before (readInVain s ends) n 96 l m in
-    let count = ap (λ (x : AreaLabel). x .«unsound_count») e in
-    omega (arith, ninety-most s (readInVain s ends) (λ k. and-left (isRead s k) (eqb (getD ends k 0) 0)))
+pub vain-most : (s : Settings) (ends : List ℕ) → length (passing (readInVain s ends) 96) ≤ 90
+unfolding readInVain
+vain-most s ends = ninety-most s (readInVain s ends) (λ k. and-left (isRead s k) (eqb (getD ends k 0) 0))

@@ -1,24 +1,19 @@
 -- The refusals of both labels: 1, 3 and 8 first, and for one cell then 9.
 use Prim.Native.Nat.{ℕ}
 use mathlib.Core.Path.{_≡_, refl, sym}
-use mathlib.Core.Bool.{not, cond}
+use mathlib.Core.Bool.{true, false, not, cond}
 use mathlib.Core.List.{List, [], _∷_}
 use lib.ListN.{length}
 use lib.Seq.{sets}
 use lib.Dec.{eqb}
-use borrow.Author.Tests.{eq-eqb, ne-eqb}
+use borrow.Author.Tests.{ne-eqb}
 use Rattle.words.specs.declared.settings.Settings.{Settings}
 use Rattle.words.specs.Number.{unsoundCell}
 use Rattle.words.specs.Refusal.{_when_, firstOf}
 use Rattle.words.proofs.Refusals.{first-stops, first-passes}
-use Rattle.windows.specs.declared.window.Window.{Window}
-use Rattle.cells.specs.Stack.{stackWindow}
 use Rattle.area.specs.Area.{groundTests, groundRefusal}
-use Rattle.label.specs.declared.span.Span.{Span}
 use Rattle.label.specs.Listing.{pairWords}
-use Rattle.label.specs.Span.{spanOf}
 use Rattle.label.specs.Label.{takesPart, meetingCells, meetingPairs, unsoundCells, cellRefusal, cellAnswer, cellLabel, areaAnswer, areaPairs, areaUnsound, areaLabel, pairsInto}
-use Rattle.label.proofs.Spans.{no-end}
 
 module _ (ram : List ℕ) (s : Settings) (cell : ℕ) where
   -- a number found before is the answer
@@ -31,16 +26,11 @@ module _ (ram : List ℕ) (s : Settings) (cell : ℕ) where
   unfolding groundRefusal cellRefusal firstOf
   part-decides e = first-passes (groundTests ram s) (unsoundCell when not (takesPart ram s cell) ∷ []) refl e
 
-  -- which is one that has no span
-  module _ (stack : Window) (own : Span) (k : stack ≡ stackWindow ram s) (o : own ≡ spanOf ram s stack cell) where
-    ends : eqb (own .end) 0 ≡ not (takesPart ram s cell)
-    ends = rw (o, k) (no-end ram s cell)
+  pub no-part : groundRefusal ram s ≡ 0 → takesPart ram s cell ≡ false → unsoundCell ≡ cellRefusal ram s cell
+  no-part g e = rw (part-decides g, e)
 
-    pub no-span : groundRefusal ram s ≡ 0 → own .end ≡ 0 → unsoundCell ≡ cellRefusal ram s cell
-    no-span g z = rw (part-decides g, ← ends, eq-eqb (own .end) 0 z)
-
-    pub a-span : groundRefusal ram s ≡ 0 → (own .end ≡ 0 → ⊥) → 0 ≡ cellRefusal ram s cell
-    a-span g z = rw (part-decides g, ← ends, ne-eqb (own .end) 0 z)
+  pub a-part : groundRefusal ram s ≡ 0 → takesPart ram s cell ≡ true → 0 ≡ cellRefusal ram s cell
+  a-part g e = rw (part-decides g, e)
 
   -- the answers
 

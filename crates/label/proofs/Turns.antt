@@ -6,16 +6,15 @@ use native.Mathlib.Omega.{arith}
 use mathlib.Core.Path.{_≡_, refl, _∙_}
 use mathlib.Core.Logic.{⊎-elim}
 use mathlib.Core.Bool.{Bool, true, false, cond, and-false}
-use mathlib.Core.List.{List, [], _∷_, _++_, map, map-append, append-nil}
+use mathlib.Core.List.{List, [], _∷_, _++_, map, map-append, map-id, map-map, append-nil}
 use lib.ListN.{length, set, length-append, length-map, replicate}
 use lib.Seq.{sets}
 use lib.Dec.{ltb}
 use borrow.Author.Tests.{le-ltb}
 use Rattle.words.proofs.Basics.{lt-or-ge}
-use Rattle.label.specs.declared.one.CellLabel.{CellLabel}
-use Rattle.label.specs.declared.whole.AreaLabel.{AreaLabel}
+use Rattle.label.specs.declared.one.Sharer.{Sharer}
 use Rattle.label.specs.Listing.{Pair, pairOf, above, passing, pairsWith, pairsBelow, pairWord, pairWords}
-use Rattle.label.specs.Label.{sharerNumbered, noSharer, cellAnswer, withSharer, areaAnswer, withUnsound}
+use Rattle.label.specs.Label.{sharerNumbered, noSharer, cellAnswer, areaAnswer}
 use Rattle.label.proofs.Stored.{run-append, run-more}
 
 -- ---- a listing
@@ -133,21 +132,6 @@ unfolding pairsBelow
 pairs-same t u end zero h = refl
 pairs-same t u end (suc n) h = rw (pairs-same t u end n h, row-same t u end n (h n))
 
--- the words of a listing's pairs, and of one pair more
-abbrev pub rowWords : ℕ → List ℕ → List ℕ
-rowWords lower highers = map pairWord (map (pairOf lower) highers)
-
-pub row-more :
-    (room highers : List ℕ) (lower higher used : ℕ) →
-    set (sets room used (rowWords lower highers)) (used + length highers) (256 * lower + higher)
-    ≡ sets room used (rowWords lower (highers ++ (higher ∷ [])))
-row-more room highers lower higher used =
-    let w = 256 * lower + higher in
-    let m = run-more room (rowWords lower highers) w used in
-    let n : length (rowWords lower highers) ≡ length highers =
-    length-map (map (pairOf lower) highers) pairWord ∙ length-map highers (pairOf lower) in
-    rw (map-append (pairOf lower) highers (higher ∷ []), map-append pairWord, ← m, n)
-
 -- a row behind the rows before it
 pub rows-more :
     (room : List ℕ) (before row : List Pair) →
@@ -157,87 +141,77 @@ rows-more room before row =
     let n : 0 + length (map pairWord before) ≡ length before = zero-add _ ∙ length-map before pairWord in
     rw (map-append pairWord before row, ← run-append room (map pairWord before) (map pairWord row) 0, n)
 
--- ---- answers
-
-pub sharer-more : (number : ℕ) (cells : List ℕ) (n : ℕ) → withSharer (cellAnswer number cells) n ≡ cellAnswer number (cells ++ (n ∷ []))
-unfolding withSharer cellAnswer
-sharer-more number cells n =
-    let m = run-more (replicate 89 noSharer) (map sharerNumbered cells) (sharerNumbered n) 0 in
-    let e : 0 + length (map sharerNumbered cells) ≡ length cells = zero-add _ ∙ length-map cells sharerNumbered in
-    rw (length-append, map-append, ← m, e)
-
-pub unsound-more :
-    (number : ℕ) (cells : List ℕ) (pairs n : ℕ) →
-    withUnsound (areaAnswer number cells pairs) n ≡ areaAnswer number (cells ++ (n ∷ [])) pairs
-unfolding withUnsound areaAnswer
-unsound-more number cells pairs n =
-    let z : List ℕ = replicate 90 0 in
-    let m = run-more z cells n 0 in
-    rw (length-append, ← m, zero-add (length cells))
-
 -- ---- turns of the loops that list
 
-module _ (t : ℕ → Bool) (n : ℕ) where
-  pub sharer-listed :
-      (label next : CellLabel) → label ≡ cellAnswer 0 (passing t n) → next ≡ withSharer label n → t n ≡ true →
-      next ≡ cellAnswer 0 (passing t (n + 1))
-  sharer-listed label next e f y = rw (passing-yes t n y, f, e) (sharer-more 0 (passing t n) n)
+-- what is made of the numbers below n that pass stands in a list from the place `used` on, and `at` is the place after it
+pub record Run {A : Type 0} (f : ℕ → A) (t : ℕ → Bool) (n used : ℕ) (room now : List A) (at : ℕ) : Type 0 where
+  pub words : now ≡ sets room used (map f (passing t n))
+  pub place : at ≡ used + length (passing t n)
 
-  pub sharer-passed :
-      (label : CellLabel) → label ≡ cellAnswer 0 (passing t n) → t n ≡ false → label ≡ cellAnswer 0 (passing t (n + 1))
-  sharer-passed label e y = rw (passing-no t n y) e
+module _ {A : Type 0} (f : ℕ → A) (t : ℕ → Bool) (n used : ℕ) (room now : List A) (at : ℕ) where
+  pub run-starts : passing t n ≡ [] → now ≡ room → at ≡ used → Run f t n used room now at
+  run-starts e p q = record { words = rw e p; place = rw e (omega arith) }
 
-  pub unsound-listed :
-      (label next : AreaLabel) (pairs : ℕ) → label ≡ areaAnswer 0 (passing t n) pairs → next ≡ withUnsound label n →
-      t n ≡ true → next ≡ areaAnswer 0 (passing t (n + 1)) pairs
-  unsound-listed label next pairs e f y = rw (passing-yes t n y, f, e) (unsound-more 0 (passing t n) pairs n)
+  module _ (run : Run f t n used room now at) where
+    pub run-put :
+        (x : A) (next : List A) (place : ℕ) → x ≡ f n → next ≡ set now at x → place ≡ at + 1 → t n ≡ true →
+        Run f t (n + 1) used room next place
+    run-put x next place i e q y =
+        let listed = passing t n in
+        let m = run-more room (map f listed) (f n) used in
+        let long : length (map f listed) ≡ length listed = length-map listed f in
+        record {
+          words = rw (passing-yes t n y, e, i, run .words, run .place, map-append f listed (n ∷ []), ← m, long);
+          place = rw (passing-yes t n y, length-append) (omega (arith, run .place));
+        }
 
-  pub unsound-passed :
-      (label : AreaLabel) (pairs : ℕ) → label ≡ areaAnswer 0 (passing t n) pairs → t n ≡ false →
-      label ≡ areaAnswer 0 (passing t (n + 1)) pairs
-  unsound-passed label pairs e y = rw (passing-no t n y) e
+    pub run-passed :
+        (next : List A) (place : ℕ) → next ≡ now → place ≡ at → t n ≡ false → Run f t (n + 1) used room next place
+    run-passed next place e q y =
+        record {
+          words = rw (passing-no t n y, e) (run .words);
+          place = rw (passing-no t n y, q) (run .place);
+        }
+
+    pub run-small : n ≤ 96 → at ≤ used + 96
+    run-small l = omega (arith, passing-most t n, run .place)
+
+-- ---- the answers that hold what is listed
+
+pub sharers-told :
+    (t : ℕ → Bool) (n : ℕ) (cells : List Sharer) (count : ℕ) → Run sharerNumbered t n 0 (replicate 89 noSharer) cells count →
+    record { number = 0; count = count; cells = cells } ≡ cellAnswer 0 (passing t n)
+unfolding cellAnswer
+sharers-told t n cells count run = rw (run .words, run .place, zero-add (length (passing t n)))
+
+abbrev pub itself : ℕ → ℕ
+itself n = n
+
+pub unsound-told :
+    (t : ℕ → Bool) (n : ℕ) (cells : List ℕ) (count pairs : ℕ) → Run itself t n 0 (replicate 90 0) cells count →
+    record { number = 0; «unsound_count» = count; unsound = cells; pairs = pairs } ≡ areaAnswer 0 (passing t n) pairs
+unfolding areaAnswer
+unsound-told t n cells count pairs run =
+    rw (run .words, run .place, map-id (passing t n), zero-add (length (passing t n)))
 
 -- ---- turns of the loop that puts pairs
 
--- the pairs of `lower` with numbers below n stand in the slice from the place `used` on, and `at` is the place after them
-pub record Row (t : ℕ → ℕ → Bool) (lower n used : ℕ) (room now : List ℕ) (at : ℕ) : Type 0 where
-  pub words : now ≡ sets room used (rowWords lower (passing (above t lower) n))
-  pub place : at ≡ used + length (passing (above t lower) n)
+-- the word of a pair, by its lower number
+abbrev pub wordFrom : ℕ → ℕ → ℕ
+wordFrom lower higher = pairWord (pairOf lower higher)
 
-module _ (t : ℕ → ℕ → Bool) (lower n used : ℕ) (room now : List ℕ) (at : ℕ) where
-  pub row-starts : n ≡ lower + 1 → now ≡ room → at ≡ used → Row t lower n used room now at
-  row-starts e f p = record { words = rw (e, above-none t lower) f; place = rw (e, above-none t lower) (omega arith) }
+-- the pairs of `lower` with numbers below n
+abbrev pub Row : (ℕ → ℕ → Bool) → ℕ → ℕ → ℕ → List ℕ → List ℕ → ℕ → Type 0
+Row t lower n used room now at = Run (wordFrom lower) (above t lower) n used room now at
 
-  module _ (row : Row t lower n used room now at) where
-    pub row-put :
-        (next : List ℕ) (place : ℕ) → next ≡ set now at (256 * lower + n) → place ≡ at + 1 → above t lower n ≡ true →
-        Row t lower (n + 1) used room next place
-    row-put next place f q y =
-        record {
-          words =
-              rw (passing-yes (above t lower) n y, f, row .words, row .place)
-              (row-more room (passing (above t lower) n) lower n used);
-          place = rw (passing-yes (above t lower) n y, length-append) (omega (arith, row .place));
-        }
-
-    pub row-passed :
-        (next : List ℕ) (place : ℕ) → next ≡ now → place ≡ at → above t lower n ≡ false →
-        Row t lower (n + 1) used room next place
-    row-passed next place f q y =
-        record {
-          words = rw (passing-no (above t lower) n y, f) (row .words);
-          place = rw (passing-no (above t lower) n y, q) (row .place);
-        }
-
-    pub row-small : n ≤ 96 → at ≤ used + 96
-    row-small l = omega (arith, passing-most (above t lower) n, row .place)
-
-    -- the whole row
-    pub row-done :
-        (end : ℕ) → n ≡ end →
-        (now ≡ sets room used (pairWords (pairsWith t end lower))) × (at ≡ used + length (pairsWith t end lower))
-    unfolding pairsWith
-    row-done end e = (rw e at (row .words), rw length-map (rw e at (row .place)))
+-- the whole row
+pub row-done :
+    (t : ℕ → ℕ → Bool) (lower n used : ℕ) (room now : List ℕ) (at : ℕ) → Row t lower n used room now at →
+    (end : ℕ) → n ≡ end →
+    (now ≡ sets room used (pairWords (pairsWith t end lower))) × (at ≡ used + length (pairsWith t end lower))
+unfolding pairsWith
+row-done t lower n used room now at row end e =
+    (rw (map-map pairWord (pairOf lower)) (rw e at (row .words)), rw length-map (rw e at (row .place)))
 
 -- a number that meets none has no row
 pub row-skipped :

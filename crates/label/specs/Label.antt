@@ -1,8 +1,8 @@
 -- A label on shared pages (document 02, request 1): for one cell, and for the whole area.
-use Prim.Native.Nat.{ℕ, _+_}
+use Prim.Native.Nat.{ℕ}
 use mathlib.Core.Bool.{Bool, true, false, not, cond, _&&_}
 use mathlib.Core.List.{List, [], _∷_, _++_, map}
-use lib.ListN.{length, set, replicate}
+use lib.ListN.{length, replicate}
 use lib.Seq.{sets}
 use lib.Dec.{eqb}
 use Rattle.words.specs.declared.settings.Settings.{Settings}
@@ -75,15 +75,6 @@ cellAnswer number listed =
       cells = sets (replicate 89 noSharer) 0 (map sharerNumbered listed);
     }
 
--- and with one cell more
-unfoldable pub withSharer : CellLabel → ℕ → CellLabel
-withSharer label number =
-    record {
-      number = label .number;
-      count = label .count + 1;
-      cells = set (label .cells) (label .count) (sharerNumbered number);
-    }
-
 unfoldable pub cellLabel : List ℕ → Settings → ℕ → CellLabel
 cellLabel ram s cell =
     cellAnswer (cellRefusal ram s cell) (unlessRefused (cellRefusal ram s cell) (meetingCells ram s cell))
@@ -96,16 +87,6 @@ areaAnswer number unsound pairs =
       «unsound_count» = length unsound;
       unsound = sets (replicate 90 0) 0 unsound;
       pairs = pairs;
-    }
-
--- and with one unsound cell more
-unfoldable pub withUnsound : AreaLabel → ℕ → AreaLabel
-withUnsound label number =
-    record {
-      number = label .number;
-      «unsound_count» = label .«unsound_count» + 1;
-      unsound = set (label .unsound) (label .«unsound_count») number;
-      pairs = label .pairs;
     }
 
 -- the pairs of the whole area; none with 1, 3 or 8

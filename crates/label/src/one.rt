@@ -1,13 +1,22 @@
 // The label of one cell: every other cell whose window meets its window.
 ghost use mathlib.Core.Path.{_≡_};
 ghost use mathlib.Core.List.{[]};
-ghost use Prim.Native.Nat.{_<_};
-ghost use Rattle.label.specs.Label.{sharerNumbered, meetingCells, cellRefusal, cellAnswer, withSharer, cellLabel};
+ghost use mathlib.Core.Bool.{true};
+ghost use Prim.Native.Nat.{_<_, _≤_};
+ghost use lib.ListN.{length};
+ghost use Rattle.label.specs.Listing.{passing};
+ghost use Rattle.label.specs.Span.{otherMeets};
+ghost use Rattle.label.specs.Label.{takesPart, sharerNumbered, meetingCells, cellAnswer, cellLabel};
 use crate::cell::able_to_write;
+use crate::cell::cell_numbered;
+use crate::cell::is_read;
 use crate::cell::kind_numbered;
-use crate::span::span_of;
+use crate::cell::read_end;
+use crate::span::Span;
+use crate::span::read_spans;
 use crate::span::spans_meet;
 use area::area::ground_refusal;
+use cells::cell::sound_cell;
 use cells::stack::stack_window;
 use words::choose::both;
 use words::number::UNSOUND_CELL;
@@ -49,54 +58,69 @@ fn no_sharers(number: u16) -> CellLabel
     }
 }
 
-// One cell more. There are at most 89 in all.
-fn with_sharer(label: CellLabel, number: u16) -> CellLabel
-    requires { ⌜ label .count < 89 ⌝ }
-    ensures { λ r. ⌜ r ≡ withSharer label number ⌝ }
+// The cells below `end` whose windows meet that of one cell, which has a window.
+fn list_meeting(starts: &[u32; 96], ends: &[u32; 96], end: u16, cell: u16) -> CellLabel
+    requires { ⌜ ((cell < 96) × (end ≤ 96)) × (length (passing (otherMeets (now starts) (now ends) cell) end) ≤ 89) ⌝ }
+    ensures { λ r. ⌜ r ≡ cellAnswer 0 (passing (otherMeets (now (starts .entry)) (now (ends .entry)) cell) end) ⌝ }
 {
-    let at = label.count as usize;
-    let mut next = label;
-    next.cells[at] = sharer_numbered(number);
-    next.count += 1;
-    next
-}
-
-// The cells whose windows meet that of one cell, each read as its turn comes.
-fn list_sharers(ram: &[u16], s: Settings, cell: u16) -> CellLabel
-    ensures { λ r. ⌜ r ≡ cellAnswer 0 (meetingCells (now (ram .entry)) s cell) ⌝ }
-{
-    let stack = stack_window(ram, s);
-    let own = span_of(ram, s, stack, cell);
-    let mut label = no_sharers(0);
+    let own = Span {
+        start: starts[cell as usize],
+        end: ends[cell as usize],
+    };
+    let mut cells = [Sharer {
+        cell: 0,
+        writes: false,
+    }; 89];
+    let mut count: u16 = 0;
     let mut other: u16 = 0;
-    while other < 96 {
-        let span = span_of(ram, s, stack, other);
+    while other < end {
+        let span = Span {
+            start: starts[other as usize],
+            end: ends[other as usize],
+        };
         if both(other != cell, spans_meet(own, span)) {
-            label = with_sharer(label, other);
+            cells[count as usize] = sharer_numbered(other);
+            count += 1;
         }
         other += 1;
     }
-    label
-}
-
-// The first of 1, 3 and 8, then 9 for a cell that takes no part.
-fn cell_refusal(ram: &[u16], s: Settings, cell: u16) -> u16
-    ensures { λ r. ⌜ r ≡ cellRefusal (now (ram .entry)) s cell ⌝ }
-{
-    let number = ground_refusal(ram, s);
-    if number != 0 {
-        return number;
+    CellLabel {
+        number: 0,
+        count,
+        cells,
     }
-    let own = span_of(ram, s, stack_window(ram, s), cell);
-    if own.end == 0 { UNSOUND_CELL } else { 0 }
 }
 
+// The listing of a cell that takes part.
+fn list_sharers(ram: &[u16], s: Settings, cell: u16) -> CellLabel
+    requires { ⌜ takesPart (now ram) s cell ≡ true ⌝ }
+    ensures { λ r. ⌜ r ≡ cellAnswer 0 (meetingCells (now (ram .entry)) s cell) ⌝ }
+{
+    let mut starts = [0u32; 96];
+    let mut ends = [0u32; 96];
+    read_spans(ram, s, &mut starts, &mut ends);
+    list_meeting(&starts, &ends, read_end(s), cell)
+}
+
+// Read by the whole-area check, and sound.
+fn takes_part(ram: &[u16], s: Settings, cell: u16) -> bool
+    ensures { λ r. ⌜ r ≡ takesPart (now (ram .entry)) s cell ⌝ }
+{
+    let stack = stack_window(ram, s);
+    let c = cell_numbered(ram, s, cell);
+    both(is_read(s, cell), sound_cell(ram.len(), stack, c))
+}
+
+// Refused with the first of 1, 3 and 8, then with 9 for a cell that takes no part.
 pub fn label_cell(ram: &[u16], s: Settings, cell: u16) -> CellLabel
     ensures { λ r. ⌜ r ≡ cellLabel (now (ram .entry)) s cell ⌝ }
 {
-    let number = cell_refusal(ram, s, cell);
+    let number = ground_refusal(ram, s);
     if number != 0 {
         return no_sharers(number);
     }
-    list_sharers(ram, s, cell)
+    if takes_part(ram, s, cell) {
+        return list_sharers(ram, s, cell);
+    }
+    no_sharers(UNSOUND_CELL)
 }

@@ -27,7 +27,7 @@ fn span_of_window(w: Window) -> Span
     }
 }
 
-pub(crate) fn span_of(ram: &[u16], s: Settings, stack: Window, number: u16) -> Span
+fn span_of(ram: &[u16], s: Settings, stack: Window, number: u16) -> Span
     ensures { λ r. ⌜ r ≡ spanOf (now (ram .entry)) s stack number ⌝ }
 {
     if !is_read(s, number) {

@@ -6,7 +6,7 @@ ghost use lib.ListN.{length};
 ghost use lib.Seq.{sets};
 ghost use Rattle.label.specs.Listing.{passing, pairsWith, pairsBelow, pairWords};
 ghost use Rattle.label.specs.Span.{placesMeet, readInVain};
-ghost use Rattle.label.specs.Label.{meetingPairs, unsoundCells, areaAnswer, withUnsound, areaLabel, pairsInto};
+ghost use Rattle.label.specs.Label.{meetingPairs, unsoundCells, areaAnswer, areaLabel, pairsInto};
 use crate::cell::is_read;
 use crate::cell::read_end;
 use crate::span::Span;
@@ -89,31 +89,26 @@ fn none_unsound(number: u16, pairs: u16) -> AreaLabel
     }
 }
 
-// One unsound cell more. There are at most 90 in all.
-fn with_unsound(label: AreaLabel, number: u16) -> AreaLabel
-    requires { ⌜ label .«unsound_count» < 90 ⌝ }
-    ensures { λ r. ⌜ r ≡ withUnsound label number ⌝ }
-{
-    let at = label.unsound_count as usize;
-    let mut next = label;
-    next.unsound[at] = number;
-    next.unsound_count += 1;
-    next
-}
-
 // The cells that are read and have no span: those that are unsound.
 fn list_unsound(s: Settings, ends: &[u32; 96], pairs: u16) -> AreaLabel
     ensures { λ r. ⌜ r ≡ areaAnswer 0 (passing (readInVain s (now (ends .entry))) 96) pairs ⌝ }
 {
-    let mut label = none_unsound(0, pairs);
+    let mut unsound = [0u16; 90];
+    let mut count: u16 = 0;
     let mut number: u16 = 0;
     while number < 96 {
         if both(is_read(s, number), ends[number as usize] == 0) {
-            label = with_unsound(label, number);
+            unsound[count as usize] = number;
+            count += 1;
         }
         number += 1;
     }
-    label
+    AreaLabel {
+        number: 0,
+        unsound_count: count,
+        unsound,
+        pairs,
+    }
 }
 
 // The label where nothing refuses.

@@ -2,12 +2,11 @@
 //
 // Thin: what is printed is settled in the library. A refill is a whole number of records, so none is split, and all lines of a
 // refill are written at once.
-mod streams;
 
 ghost use Prim.Native.Nat.{_≤_};
 ghost use lib.ListN.{length};
-use streams::fill;
-use streams::print;
+use streams::input::fill;
+use streams::output::print;
 use trace::output::load_image;
 use trace::output::put_image_line;
 use trace::output::put_last_lines;
@@ -24,6 +23,13 @@ struct Standing {
     left: usize,
     well: bool,
     more: bool,
+}
+
+// Prints text that is all in the buffer. Answers whether all went well so far.
+fn print_all(out: &[u8], used: usize, well: bool) -> bool
+    requires { ⌜ used ≤ length (now out) ⌝ }
+{
+    print(out, used, well)
 }
 
 // Fills the buffer, walks its whole records and writes their lines. A short fill is the end of the input, or reading failed.
@@ -48,7 +54,7 @@ fn refill(
         at.number,
         &buffer[..got],
     );
-    let written = print(out, w.used);
+    let written = print_all(out, w.used, at.well);
     let remembered = w.remembered;
     Standing {
         remembered,
@@ -79,7 +85,7 @@ fn run(ram: &mut [u16], reply: &mut [u16], buffer: &mut [u8], out: &mut [u8])
     }
     if at.well {
         let used = put_last_lines(out, at.left, at.number);
-        print(out, used);
+        print_all(out, used, true);
     }
 }
 
@@ -100,7 +106,7 @@ fn image_and_trace(
     let got = filled.got;
     if got < image.len() {
         let used = put_image_line(out, got);
-        print(out, used);
+        print_all(out, used, true);
         return;
     }
     load_image(ram, image);

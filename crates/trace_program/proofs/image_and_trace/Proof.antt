@@ -17,8 +17,8 @@ returns c = search needs
 put-image-line-requires : tie.Need-put-image-line-requires
 put-image-line-requires c κs = search needs
 
-print-requires : tie.Need-print-requires
-print-requires c κs =
+print-all-requires : tie.Need-print-all-requires
+print-all-requires c κs =
     let line = c .before .before .before .put-image-line in
     omega (arith, line .ensures .length, line .kept .0, image-most (c .before .before .before .before .before .before .before .before .before .fill .result .got))
 
@@ -63,7 +63,7 @@ image-and-trace-spec =
     same-length
     returns
     put-image-line-requires
-    print-requires
+    print-all-requires
     same-length-2
     same-length-3
     returns-2

@@ -20,8 +20,8 @@ slice-aggregate-walk c = search needs
 walk-requires : tie.Need-walk-requires
 walk-requires c κs = search needs
 
-print-requires : tie.Need-print-requires
-print-requires c κs = omega (arith, used-fits _ _ _ _ _ _ _ (c .before .before .before .before .before .before .before .walk .ensures .0))
+print-all-requires : tie.Need-print-all-requires
+print-all-requires c κs = omega (arith, used-fits _ _ _ _ _ _ _ (c .before .before .before .before .before .before .before .walk .ensures .0))
 
 same-length : tie.Need-same-length
 same-length c = search needs
@@ -62,7 +62,7 @@ refill-spec =
     slice-reshare-prefix-walk
     slice-aggregate-walk
     walk-requires
-    print-requires
+    print-all-requires
     same-length
     same-length-2
     same-length-3

@@ -41,8 +41,8 @@ loop-again c =
 put-last-lines-requires : tie.Need-put-last-lines-requires Inv-loop μ-loop
 put-last-lines-requires c κs = search needs
 
-print-requires : tie.Need-print-requires Inv-loop μ-loop
-print-requires c κs =
+print-all-requires : tie.Need-print-all-requires Inv-loop μ-loop
+print-all-requires c κs =
     let lines = c .before .before .before .put-last-lines in
     let at = c .before .before .before .before .before .before .before .loop .at in
     omega (arith, lines .ensures .length, lines .kept .0, last-most (at .left) (at .number))
@@ -90,7 +90,7 @@ run-spec =
     loop-less
     loop-again
     put-last-lines-requires
-    print-requires
+    print-all-requires
     same-length
     same-length-2
     same-length-3

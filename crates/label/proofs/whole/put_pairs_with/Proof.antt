@@ -7,7 +7,7 @@ use mathlib.Core.Logic.{⊎-elim}
 use lib.Seq.{length-sets}
 use Rattle.label.specs.Span.{placesMeet}
 use Rattle.label.proofs.Spans.{turn-above, spanless-none}
-use Rattle.label.proofs.Turns.{Row, row-starts, row-put, row-passed, row-small, row-done, row-skipped}
+use Rattle.label.proofs.Turns.{above-none, Row, run-starts, run-put, run-passed, run-small, row-done, row-skipped}
 use Rattle.label.proofs.whole.put_pairs_with.Statement.{statement}
 use Rattle.label.proofs.whole.put_pairs_with.Tie as tie
 
@@ -37,7 +37,7 @@ add-higher : tie.Need-add-higher Inv-loop μ-loop
 add-higher c = search needs
 
 loop-holds : tie.Need-loop-holds Inv-loop μ-loop
-loop-holds c = ((omega arith, omega arith), row-starts _ _ _ _ _ _ _ refl refl refl)
+loop-holds c = ((omega arith, omega arith), run-starts _ _ _ _ _ _ _ (above-none (placesMeet _ _) _) refl refl)
 
 cast-t23 : tie.Need-cast-t23 Inv-loop μ-loop
 cast-t23 c = search needs
@@ -72,7 +72,7 @@ put-requires c κs = search needs
 add-at : tie.Need-add-at Inv-loop μ-loop
 add-at c =
     let at = c .before .before .before .before .before .before .before .before .before in
-    let small = row-small _ _ (at .loop .higher) _ _ _ _ (at .loop .inv .1) (omega arith) in
+    let small = run-small _ _ (at .loop .higher) _ _ _ _ (at .loop .inv .1) (omega arith) in
     omega arith
 
 add-higher-2 : tie.Need-add-higher-2 Inv-loop μ-loop
@@ -91,8 +91,8 @@ loop-again c =
     (asked .spans-meet .ensures) in (
       (omega arith, omega arith),
       ⊎-elim
-          (λ w. row-put _ _ _ _ _ _ _ (at .loop .inv .1) _ _ (w .5 ∙ w .2 .ensures) (w .6) (meet ∙ w .0 .taken))
-          (λ w. row-passed _ _ _ _ _ _ _ (at .loop .inv .1) _ _ (w .1) (w .2) (meet ∙ w .0 .left))
+          (λ w. run-put _ _ _ _ _ _ _ (at .loop .inv .1) _ _ _ refl (w .5 ∙ w .2 .ensures) (w .6) (meet ∙ w .0 .taken))
+          (λ w. run-passed _ _ _ _ _ _ _ (at .loop .inv .1) _ _ (w .1) (w .2) (meet ∙ w .0 .left))
           (c .if2 .came),
     )
 

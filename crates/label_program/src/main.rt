@@ -1,0 +1,35 @@
+// Reads a RAM image from standard input, and prints the label of the whole area with the trace program's settings.
+//
+// Thin: what is printed is settled in the library. The buffer has room for the label of any image.
+use label_text::printed::put_area_text;
+use streams::input::fill;
+use streams::output::print;
+use trace::output::load_image;
+use trace::output::put_image_line;
+use words::settings::program_settings;
+
+// The label of a whole image, or the line of one that is cut short. Answers the length of the text.
+fn put_text(ram: &mut [u16], out: &mut [u8], image: &[u8], got: usize) -> usize {
+    if got < image.len() {
+        return put_image_line(out, got);
+    }
+    load_image(ram, image);
+    put_area_text(out, ram, program_settings())
+}
+
+// Nothing is printed where reading failed.
+fn label(ram: &mut [u16], out: &mut [u8], image: &mut [u8]) {
+    let filled = fill(image);
+    if filled.failed {
+        return;
+    }
+    let used = put_text(ram, out, image, filled.got);
+    print(out, used, true);
+}
+
+fn main() {
+    let mut ram = [0u16; 4096];
+    let mut image = [0u8; 8192];
+    let mut out = [0u8; 350000];
+    label(&mut ram, &mut out, &mut image);
+}
