@@ -90,7 +90,8 @@ go-on-answered s a hs ram at back after e z =
     let w = replayOf ram at in
     let told : valuesOf (back .who) .number ≡ whoRefusal (length ram) s a =
     ap (λ (r : Replay). valuesOf (r .at .who) .number) e ∙ gone-number s a hs w z in
-    let kept : (valuesOf (back .who) .number ≡ 0 → ⊥) → replayOf after back ≡ refusedAt (whoRefusal (length ram) s a) w =
+    let number = whoRefusal (length ram) s a in
+    let kept : (valuesOf (back .who) .number ≡ 0 → ⊥) → replayOf after back ≡ refusedAt number w =
     λ m. e ∙ gone-refused s a hs w (λ k. m (told ∙ k)) in
     let refusal : ℕ → Standing = λ n. record { remembered = at .remembered; number = at .number; who = Refused n } in
     answered (whoTests (length ram) s a) (valuesOf (back .who) .number) back refusal ram after refl refl told
@@ -120,7 +121,9 @@ unfolding entryOf valuesOf
 entry-told number mark =
     ⊎-elim (λ (t : eqb number 0 ≡ true). rw t) (λ (t : eqb number 0 ≡ false). rw t) (yes-or-no (eqb number 0))
 
-entry-number : (numbers marks : List ℕ) (a : ℕ) → valuesOf (entryAt numbers marks a) .number ≡ firstOf (entryTests numbers a)
+entry-number :
+    (numbers marks : List ℕ) (a : ℕ) →
+    valuesOf (entryAt numbers marks a) .number ≡ firstOf (entryTests numbers a)
 unfolding entryAt valuesOf firstOf
 entry-number numbers marks a =
     let beyond = leb (length numbers) a in
@@ -169,8 +172,8 @@ unfolding whoRefusal
 exported-who-answered s a hs ram ram′ number last part last′ part′ n f l p =
     let told : valuesOf (asked s a hs ram .at .who) .number ≡ whoRefusal (length ram) s a =
     who-put-this-here s a hs ram .number in
-    told-answered (whoTests (length ram) s a) (asked s a hs ram .at .who) number last part last′ part′ ram ram′ refl refl
-    n told l p
+    told-answered (whoTests (length ram) s a) (asked s a hs ram .at .who) number last part last′ part′ ram ram′
+    refl refl n told l p
     (λ m. f ∙ who-refused s a hs ram (λ z. m (told ∙ z)))
 
 pub exported-fill-answered :
@@ -191,7 +194,7 @@ pub exported-entry-answered :
     part′ ≡ over part (partWords (valuesOf (entryAt numbers marks a))) →
     ToldAnswered (entryTests numbers a) number last part last′ part′ numbers numbers
 exported-entry-answered numbers marks a number last part last′ part′ n l p =
-    told-answered (entryTests numbers a) (entryAt numbers marks a) number last part last′ part′ numbers numbers refl refl
-    n
+    told-answered (entryTests numbers a) (entryAt numbers marks a) number last part last′ part′ numbers numbers
+    refl refl n
     (entry-number numbers marks a) l p
     (λ m. refl)

@@ -126,8 +126,8 @@ first =
             ends = question.ask.Met.met;
             says =
                 λ c.
-                ask-answered (c .given .1 .0) (c .given .1 .1 .0) (heardIn (now (c .given .1 .1 .1 .0))) (now (c .given .0))
-                (c .back) (c .left .0) (c .allowed .0) (c .allowed .1);
+                ask-answered (c .given .1 .0) (c .given .1 .1 .0) (heardIn (now (c .given .1 .1 .1 .0)))
+                (now (c .given .0)) (c .back) (c .left .0) (c .allowed .0) (c .allowed .1);
           };
       go-on =
           record {
@@ -208,7 +208,8 @@ first =
             says =
                 λ c.
                 exported-entry-answered (now (c .given .0)) (now (c .given .1 .0)) (c .given .1 .1 .0) (c .back)
-                (now (c .given .1 .1 .1 .0)) (now (c .given .1 .1 .1 .1 .0)) (c .left .1 .1 .1 .0) (c .left .1 .1 .1 .1 .0)
+                (now (c .given .1 .1 .1 .0)) (now (c .given .1 .1 .1 .1 .0)) (c .left .1 .1 .1 .0)
+                (c .left .1 .1 .1 .1 .0)
                 (c .allowed .0) (c .allowed .1 .0) (c .allowed .1 .1);
           };
     }

@@ -221,7 +221,8 @@ pub record Demand : Type 2 where
       (λ c.
       Answered (writerTests (valueFrom (now (c .given .0)))) (c .back) (c .left .1 .0)
       (λ n. over (now (c .given .1 .0)) (replicate 80 0)) (now (c .given .0)) (now (c .given .0)))
-  -- "Who put this word here", for one address: of a whole trace, and of a part of one, after an answer that is no refusal
+  -- "Who put this word here", for one address: of a whole trace, and of a part of one, after an answer that is no
+  -- refusal
   pub ask :
       Entry 2 question.ask.Kinds.ps question.ask.Kinds.r question.ask.Reads.Pre question.ask.Reads.Post
       question.ask.Statement.statement
@@ -231,7 +232,8 @@ pub record Demand : Type 2 where
       question.go_on.Statement.statement
       (λ c.
       valuesOf (c .given .1 .1 .1 .0 .who) .number ≡ 0 →
-      GoOnAnswered (c .given .1 .0) (c .given .1 .1 .0) (now (c .given .0)) (c .given .1 .1 .1 .0) (c .back) (c .left .0))
+      GoOnAnswered (c .given .1 .0) (c .given .1 .1 .0) (now (c .given .0)) (c .given .1 .1 .1 .0) (c .back)
+      (c .left .0))
   -- and for every address at once: a refusal leaves RAM and the tables, and what is remembered, as they were
   pub fill :
       Entry 4 table.fill.Kinds.ps table.fill.Kinds.r table.fill.Reads.Pre table.fill.Reads.Post
@@ -289,7 +291,8 @@ pub record Demand : Type 2 where
       origins.solkverva_who_fill.Reads.Pre
       origins.solkverva_who_fill.Reads.Post origins.solkverva_who_fill.Statement.statement
       (λ c.
-      Answered (replayTests (length (now (c .given .0))) (settingsFrom (now (c .given .1 .1 .1 .0)))) (c .back) (c .back)
+      Answered (replayTests (length (now (c .given .0))) (settingsFrom (now (c .given .1 .1 .1 .0)))) (c .back)
+      (c .back)
       (λ n. n)
       (lentTablesOf (now (c .given .0)) (now (c .given .1 .0)) (now (c .given .1 .1 .0))
       (now (c .given .1 .1 .1 .1 .0))

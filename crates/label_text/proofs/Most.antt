@@ -49,7 +49,10 @@ also-most number = simp length-append (omega (arith, cell-most number))
 
 -- lines of which each has at most m bytes
 lines-most :
-    {A : Type 0} (line : A → List ℕ) (m : ℕ) → ((x : A) → length (line x) ≤ m) → (xs : List A) → length (flatMap line xs) ≤ m * length xs
+    {A : Type 0} (line : A → List ℕ) (m : ℕ) →
+    ((x : A) → length (line x) ≤ m) →
+    (xs : List A) →
+    length (flatMap line xs) ≤ m * length xs
 unfolding flatMap
 lines-most line m h [] = omega arith
 lines-most line m h (x ∷ xs) = rw length-append (omega (arith, h x, lines-most line m h xs))
