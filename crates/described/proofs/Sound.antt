@@ -1,5 +1,5 @@
 -- A cell or the stack is sound exactly where it has no fault.
-use Prim.Native.Nat.{ℕ}
+use Prim.Native.Nat.{ℕ, _+_, _%_}
 use native.Mathlib.Omega.{arith}
 use mathlib.Core.Path.{_≡_, refl, sym, _∙_}
 use mathlib.Core.Bool.{Bool, true, false, not, _&&_, _||_}
@@ -15,15 +15,17 @@ use Rattle.cells.specs.Cell.{cellWindow, doubleFits, soundCell}
 use Rattle.cells.specs.Stack.{stackPointer, stackWindow, stackSound}
 use Rattle.described.specs.Faults.{faultsOf, lowArea, highArea, cellFaults, stackFaults}
 
+fault : (n : ℕ) → (n ≡ 0 → ⊥) → false ≡ eqb n 0
+fault n m = sym (ne-eqb n 0 m)
+
 none-set :
     (a b c d e f : Bool) →
     (((a && b) && c) && not ((d || e) || f)) ≡ eqb (faultsOf (not a) (not b) (not c) d e f) 0
-unfolding faultsOf
-none-set false b c d e f = sym (ne-eqb _ 0 (λ z. omega arith))
-none-set true false c d e f = sym (ne-eqb _ 0 (λ z. omega arith))
-none-set true true false d e f = sym (ne-eqb _ 0 (λ z. omega arith))
-none-set true true true true e f = sym (ne-eqb _ 0 (λ z. omega arith))
-none-set true true true false true f = sym (ne-eqb _ 0 (λ z. omega arith))
+none-set false b c d e f = fault (faultsOf true (not b) (not c) d e f) (λ z. omega arith)
+none-set true false c d e f = fault (faultsOf false true (not c) d e f) (λ z. omega arith)
+none-set true true false d e f = fault (faultsOf false false true d e f) (λ z. omega arith)
+none-set true true true true e f = fault (faultsOf false false false true e f) (λ z. omega arith)
+none-set true true true false true f = fault (faultsOf false false false false true f) (λ z. omega arith)
 none-set true true true false false true = refl
 none-set true true true false false false = refl
 
@@ -47,12 +49,9 @@ regrouped false c d e = refl
 pub stack-sound : (ram : List ℕ) (s : Settings) → stackSound ram s ≡ eqb (stackFaults ram s) 0
 unfolding stackSound stackFaults meetsFixed runFrom
 stack-sound ram s =
-    regrouped _
-    (fitsBelow (stackWindow ram s) (length ram))
-    (windowsMeet (stackWindow ram s) lowArea)
-    (windowsMeet (stackWindow ram s) highArea)
-    ∙ none-set _ _
-    (fitsBelow (stackWindow ram s) (length ram))
-    (windowsMeet (stackWindow ram s) lowArea)
-    (windowsMeet (stackWindow ram s) highArea)
-    false
+    let a : Bool = eqb (stackPointer ram s % 4) 0 in
+    let b : Bool = leb (stackPointer ram s + 4) (length ram) in
+    let c : Bool = fitsBelow (stackWindow ram s) (length ram) in
+    let d : Bool = windowsMeet (stackWindow ram s) lowArea in
+    let e : Bool = windowsMeet (stackWindow ram s) highArea in
+    regrouped (a && b) c d e ∙ none-set a b c d e false

@@ -14,7 +14,7 @@ use Rattle.cells.specs.Cell.{cellWindow, doubleFits}
 use Rattle.cells.specs.Stack.{stackPointer, stackWindow}
 
 -- bits 0 to 5
-unfoldable pub faultsOf : Bool → Bool → Bool → Bool → Bool → Bool → ℕ
+abbrev pub faultsOf : Bool → Bool → Bool → Bool → Bool → Bool → ℕ
 faultsOf a b c d e f = bitOf a + 2 * bitOf b + 4 * bitOf c + 8 * bitOf d + 16 * bitOf e + 32 * bitOf f
 
 -- "Fixed areas are 0100-0247 and 0300-03FF."
