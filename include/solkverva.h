@@ -14,8 +14,8 @@
  * record that is read 80 bytes, no more and no fewer.
  *
  * All else may have any length. What is missing of settings, remembered or value is read as 0. What remembered, answer,
- * value, listing, counts, unsound, pairs, description, numbers, marks, records, last, part or the bytes that are written
- * have no room for is dropped; where they are longer, the rest keeps its contents.
+ * value, listing, counts, unsound, pairs, description, numbers, marks, records, last, part or the bytes that are
+ * written have no room for is dropped; where they are longer, the rest keeps its contents.
  *
  * settings: RT address; area (0 is A, any other word B); stack size in words; then yes/no (0 is no): overwrite-invalid,
  *   separate-broadcast, illegal-receive-disable, busy-receive-disable, busy-always, service request, subsystem flag,
@@ -30,9 +30,10 @@
  * unsound: the numbers of the unsound cells, rising; then 0.
  * pairs: a word for each pair, rising: the lower number in the high byte, the higher in the low byte.
  *
- * description: of a cell, kind (0 receive, 1 transmit, 2 broadcast), subaddress, 1 where the whole-area check reads it or
- *   else 0, scheme (1 single, 2 double, 3 circular), pointer, first word of the window, words of the window, faults; of
- *   the stack, pointer, first word of the block, words of the block, faults. Faults are added up, and 0 where it is sound.
+ * description: of a cell its kind (0 receive, 1 transmit, 2 broadcast), its subaddress, 1 where the whole-area check
+ *   reads it or else 0, its scheme (1 single, 2 double, 3 circular), its pointer, the first word of its window, how many
+ *   words the window has, its faults; of the stack its pointer, the first word of its block, how many words the block
+ *   has, its faults. Faults are added up; there are none, 0, exactly where it is sound.
  *
  * numbers, marks: for each address of RAM a number and a word, all 0 at first; a trace fills them, and
  *   solkverva_who_entry tells what they say. Lend both with 4,096.
@@ -136,8 +137,8 @@ uint16_t solkverva_label_area(const uint16_t *ram, size_t ram_words, const uint1
                               uint16_t *counts, size_t counts_words, uint16_t *unsound, size_t unsound_words,
                               uint16_t *pairs, size_t pairs_words);
 
-/* What a cell is like, read or not and sound or not: its description. A number from 96 on is taken for a broadcast cell
- * that is not read, of the subaddress that is left when 32s are taken away. The number: 0, 1 or 3. */
+/* What a cell is like, read or not and sound or not: its description. There is no cell from 96 on: such a number is
+ * described as a broadcast cell that is not read, its subaddress the remainder by 32. The number: 0, 1 or 3. */
 uint16_t solkverva_describe_cell(const uint16_t *ram, size_t ram_words, const uint16_t *settings, size_t settings_words,
                                  uint16_t cell, uint16_t *description, size_t description_words);
 

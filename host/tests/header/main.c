@@ -242,7 +242,8 @@ static void what_they_are_like(void)
     const uint16_t four[9] = {2, 4, 0, 2, 0x02F1, 0x02C0, 64, SOLKVERVA_CELL_DOUBLE_OFF, UNTOUCHED};
     const uint16_t nothing[9] = {0, 0, 0, 0, 0, 0, 0, 0, UNTOUCHED};
     const uint16_t stack[5] = {0, 0, 256, 0, UNTOUCHED};
-    const uint16_t off[5] = {0x0302, 0x0300, 256, SOLKVERVA_STACK_POINTER_OFF | SOLKVERVA_STACK_MEETS_HIGH_AREA, UNTOUCHED};
+    const uint16_t faults = SOLKVERVA_STACK_POINTER_OFF | SOLKVERVA_STACK_MEETS_HIGH_AREA;
+    const uint16_t off[5] = {0x0302, 0x0300, 256, faults, UNTOUCHED};
 
     start();
     ram[0x0184] = 0x02F1;
