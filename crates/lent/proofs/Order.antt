@@ -33,6 +33,15 @@ pub four-back :
     sets xs i (a ∷ b ∷ c ∷ d ∷ []) ≡ set (set (set (set xs (i + 3) d) (i + 2) c) (i + 1) b) i a
 four-back xs i a b c d = simp unary-clauses (sets-back xs (a ∷ b ∷ c ∷ d ∷ []) i)
 
+-- eight words: the last four, the first four
+pub eight-back :
+    (xs : List ℕ) (a b c d e f g h : ℕ) →
+    sets xs 0 (a ∷ b ∷ c ∷ d ∷ e ∷ f ∷ g ∷ h ∷ []) ≡ sets (sets xs 4 (e ∷ f ∷ g ∷ h ∷ [])) 0 (a ∷ b ∷ c ∷ d ∷ [])
+eight-back xs a b c d e f g h =
+    sets-back xs (a ∷ b ∷ c ∷ d ∷ e ∷ f ∷ g ∷ h ∷ []) 0
+    ∙ rw
+    (sets-back xs (e ∷ f ∷ g ∷ h ∷ []) 4, sets-back (back xs 4 (e ∷ f ∷ g ∷ h ∷ [])) (a ∷ b ∷ c ∷ d ∷ []) 0)
+
 -- nine words: the last, the four before it, the first four
 pub nine-back :
     (xs : List ℕ) (a b c d e f g h i : ℕ) →
