@@ -49,7 +49,7 @@ use Rattle.boundary.proofs.Halves.{upper-half, lower-half}
 use Rattle.demands.specs.First.{writerTests, ExportedAnswered, TakeAnswered, rising, Answered, MessageAnswered, CheckAnswered, ReadAnswered, WriteAnswered}
 
 -- where the number is that of the first test that holds, what is left to show is what a refusal gives back and leaves
-answered :
+pub answered :
     (tests : List Test) {Back Lent : Type 0} (number : ℕ) (back : Back) (refusal : ℕ → Back) (before after : Lent) →
     rising tests ≡ true →
     numbered tests ≡ true →
@@ -96,7 +96,7 @@ check-answered ram s back e =
     }
 
 -- what is given back by the number of the first test that holds, where nothing is lent to be changed
-by-number :
+pub by-number :
     (tests : List Test) {Back Lent : Type 0} (numberOf : Back → ℕ) (back done : Back) (refusal : ℕ → Back)
     (lent : Lent) →
     rising tests ≡ true →

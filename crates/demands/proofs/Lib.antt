@@ -1,4 +1,5 @@
 pub mod Answered
+pub mod Described
 pub mod Sent
 pub mod Worked
 pub mod Back
