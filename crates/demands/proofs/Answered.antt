@@ -97,7 +97,7 @@ check-answered ram s back e =
     }
 
 -- what is given back by the number of the first test that holds, where nothing is lent to be changed
-by-number :
+pub by-number :
     (tests : List Test) {Back Lent : Type 0} (numberOf : Back → ℕ) (back done : Back) (refusal : ℕ → Back)
     (lent : Lent) →
     rising tests ≡ true →

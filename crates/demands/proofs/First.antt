@@ -5,6 +5,10 @@ use Rattle.layout.proofs.writer
 use Rattle.area.proofs.area
 use Rattle.label.proofs.one
 use Rattle.label.proofs.whole
+use Rattle.described.proofs.cell as described-cell
+use Rattle.described.proofs.stack as described-stack
+use Rattle.boundary.proofs.descriptions
+use Rattle.demands.proofs.Described.{cell-described, stack-described, exported-cell-described, exported-stack-described}
 use Rattle.message.proofs.serve
 use Rattle.trace.proofs.walk
 use Rattle.who.specs.Replay.{heardIn}
@@ -70,6 +74,36 @@ first =
                 area-labelled (now (c .given .0)) (c .given .1 .0) (now (c .given .1 .1 .0)) (c .left .1 .1 .0) (c .back)
                 (c .allowed .0)
                 (c .allowed .1);
+          };
+      describe-cell =
+          record {
+            any = λ κs given. tt;
+            ends = described-cell.describe_cell.Met.met;
+            says = λ c. cell-described (now (c .given .0)) (c .given .1 .0) (c .given .1 .1 .0) (c .back) (c .allowed);
+          };
+      describe-stack =
+          record {
+            any = λ κs given. tt;
+            ends = described-stack.describe_stack.Met.met;
+            says = λ c. stack-described (now (c .given .0)) (c .given .1 .0) (c .back) (c .allowed);
+          };
+      exported-describe-cell =
+          record {
+            any = λ κs given. tt;
+            ends = descriptions.solkverva_describe_cell.Met.met;
+            says =
+                λ c.
+                exported-cell-described (now (c .given .0)) (settingsFrom (now (c .given .1 .0))) (c .given .1 .1 .0)
+                (c .back) (now (c .given .1 .1 .1 .0)) (c .left .1 .1 .1 .0) (c .allowed .0) (c .allowed .1);
+          };
+      exported-describe-stack =
+          record {
+            any = λ κs given. tt;
+            ends = descriptions.solkverva_describe_stack.Met.met;
+            says =
+                λ c.
+                exported-stack-described (now (c .given .0)) (settingsFrom (now (c .given .1 .0))) (c .back)
+                (now (c .given .1 .1 .0)) (c .left .1 .1 .0) (c .allowed .0) (c .allowed .1);
           };
       walk =
           record {

@@ -30,6 +30,10 @@ use Rattle.area.proofs.Whole.{AreaUnsound}
 use Rattle.label.specs.Label.{cellTests, cellAnswer, areaAnswer}
 use Rattle.label.proofs.one
 use Rattle.label.proofs.whole
+use Rattle.described.specs.Described.{givenTests, noCell, noStack}
+use Rattle.described.proofs.cell as described-cell
+use Rattle.described.proofs.stack as described-stack
+use Rattle.boundary.proofs.descriptions
 use Rattle.message.specs.Heard.{heardBytes}
 use Rattle.message.specs.Tests.{testsFor, recordTests}
 use Rattle.message.specs.Answer.{refusedWith}
@@ -182,6 +186,43 @@ pub record Demand : Type 2 where
       Answered (groundTests (now (c .given .0)) (c .given .1 .0)) (c .back .number) (c .back) (λ n. areaAnswer n [] 0)
       (now (c .given .1 .1 .0))
       (c .left .1 .1 .0))
+  -- what a cell and the stack are like, also for callers in C and Rust
+  pub describe-cell :
+      Entry 1 described-cell.describe_cell.Kinds.ps described-cell.describe_cell.Kinds.r
+      described-cell.describe_cell.Reads.Pre
+      described-cell.describe_cell.Reads.Post described-cell.describe_cell.Statement.statement
+      (λ c.
+      Answered (givenTests (length (now (c .given .0))) (c .given .1 .0)) (c .back .number) (c .back) noCell
+      (now (c .given .0))
+      (now (c .given .0)))
+  pub describe-stack :
+      Entry 1 described-stack.describe_stack.Kinds.ps described-stack.describe_stack.Kinds.r
+      described-stack.describe_stack.Reads.Pre
+      described-stack.describe_stack.Reads.Post described-stack.describe_stack.Statement.statement
+      (λ c.
+      Answered (givenTests (length (now (c .given .0))) (c .given .1 .0)) (c .back .number) (c .back) noStack
+      (now (c .given .0))
+      (now (c .given .0)))
+  pub exported-describe-cell :
+      Entry 3 descriptions.solkverva_describe_cell.Kinds.ps descriptions.solkverva_describe_cell.Kinds.r
+      descriptions.solkverva_describe_cell.Reads.Pre
+      descriptions.solkverva_describe_cell.Reads.Post descriptions.solkverva_describe_cell.Statement.statement
+      (λ c.
+      Answered (givenTests (length (now (c .given .0))) (settingsFrom (now (c .given .1 .0)))) (c .back)
+      (c .left .1 .1 .1 .0)
+      (λ n. over (now (c .given .1 .1 .1 .0)) (replicate 8 0))
+      (now (c .given .0))
+      (now (c .given .0)))
+  pub exported-describe-stack :
+      Entry 3 descriptions.solkverva_describe_stack.Kinds.ps descriptions.solkverva_describe_stack.Kinds.r
+      descriptions.solkverva_describe_stack.Reads.Pre
+      descriptions.solkverva_describe_stack.Reads.Post descriptions.solkverva_describe_stack.Statement.statement
+      (λ c.
+      Answered (givenTests (length (now (c .given .0))) (settingsFrom (now (c .given .1 .0)))) (c .back)
+      (c .left .1 .1 .0)
+      (λ n. over (now (c .given .1 .1 .0)) (replicate 4 0))
+      (now (c .given .0))
+      (now (c .given .0)))
   -- each whole record of a trace is such a message
   pub walk :
       Entry 4 walk.walk.Kinds.ps walk.walk.Kinds.r walk.walk.Reads.Pre walk.walk.Reads.Post
