@@ -5,13 +5,13 @@ use native.Mathlib.Omega.{arith}
 use mathlib.Core.Path.{_≡_}
 use mathlib.Core.Bool.{Bool, true, false, not, _&&_, _||_, and-true, or-false}
 use lib.Dec.{leb, eqb}
-use borrow.Author.Tests.{eqb-true, eqb-false, ne-eqb, leb-true, le-leb, not-true, not-false}
-use Rattle.words.specs.Command.{transmits}
+use borrow.Author.Tests.{eqb-false, ne-eqb, leb-true, le-leb, not-true}
 use Rattle.words.proofs.Basics.{and-left, and-right, or-left, or-right}
 use Rattle.records.specs.declared.value.Record.{Record}
 use Rattle.records.specs.Transfer.{isTransfer, hasNoStatus, hasWrongGap, hasBadSecond, transferFails, breaksTransfer}
 use Rattle.records.specs.Value.{hasWrongSync, hasInvalidWord, lastsZero, keepsLayout}
 use Rattle.records.specs.Fault.{faultsOf}
+use Rattle.records.proofs.Rules.{kept-of}
 
 -- "(1 = bus B, 2 = wrong sync, 4 = invalid word; higher bits zero)"
 pub record Plain (v : Record) : Type 0 where
@@ -52,24 +52,20 @@ pub record NoTransfer (v : Record) : Type 0 where
   pub bytes : v .«transmit_command» ≡ 0
 
 pub no-transfer : (v : Record) → keepsLayout v ≡ true → isTransfer v ≡ false → NoTransfer v
-unfolding keepsLayout breaksTransfer transferFails
+unfolding keepsLayout transferFails
 no-transfer v k t =
     let n = v .flags in
     let limits = leb (v .flags) 127 && leb (v .count) 33 in
     let head = and-left (limits && not (breaksTransfer v)) (lastsZero (v .words) (v .count) 32) k in
     let high = leb-true (v .flags) 127 (and-left (leb (v .flags) 127) (leb (v .count) 33) (and-left limits _ head)) in
-    let whole = not-true (breaksTransfer v) (and-right limits _ head) in
-    let without = transferFails v || not (eqb (v .«transmit_command») 0) in
-    let words = transferFails v && not (eqb (v .count) 0) in
-    let set = or-left (not (isTransfer v) && without) words (or-right (isTransfer v && transmits (v .command)) _ whole) in
-    let none : without ≡ false = rw t at set in
-    let fails = or-left (transferFails v) _ none in
+    let rules = kept-of v (not-true (breaksTransfer v) (and-right limits _ head)) in
+    let fails = rules .marked t in
     let a = eqb-false (n / 16 % 2) 1 (or-left (hasNoStatus v) _ fails) in
     let b = eqb-false (n / 32 % 2) 1 (or-left (hasWrongGap v) _ (or-right (hasNoStatus v) _ fails)) in
     let c = eqb-false (n / 64 % 2) 1 (or-right (hasWrongGap v) _ (or-right (hasNoStatus v) _ fails)) in
     record {
       flags = without-8 n (without-16 n (without-32 n (without-64 n high c) b) a) (eqb-false (n / 8 % 2) 1 t);
-      bytes = eqb-true (v .«transmit_command») 0 (not-false _ (or-right (transferFails v) _ none));
+      bytes = rules .bytes t;
     }
 
 -- and where flags and bytes 2-3 are as document 01 has them, the layout is document 01's
