@@ -29,7 +29,7 @@ plainRam = replicate 0x140 0 ++ (replicate 64 0x400 ++ replicate (4096 - 0x180) 
 abbrev pub heard : ℕ → ℕ → List ℕ → Heard
 heard command tag words =
     heardValue
-    (record { command = command; tag = tag; flags = 0; count = length words; words = words ++ replicate (32 - length words) 0 })
+    (record { command = command; «transmit_command» = 0; tag = tag; flags = 0; count = length words; words = words ++ replicate (32 - length words) 0 })
 
 pub record Case : Type 0 where
   pub ram : List Write
@@ -209,7 +209,7 @@ broken =
       room = 33;
       messages =
           heard 0x2861 7 (5 ∷ [])
-          ∷ heardValue (record { command = 0x2881; tag = 8; flags = 0; count = 34; words = replicate 32 6 })
+          ∷ heardValue (record { command = 0x2881; «transmit_command» = 0; tag = 8; flags = 0; count = 34; words = replicate 32 6 })
           ∷ [];
       places = 0 ∷ [];
       look = 0x100 ∷ [];
