@@ -1,4 +1,4 @@
--- The cases computed, in one statement. In the first two the exchange is allowed: descriptors change places on the stack, and in
+-- The cases computed, in one statement. In the first three the exchange is allowed: descriptors change places on the stack, and in
 -- the second the stack-rollover bit passes to the other message; all that demand 3 says holds. In each of the others one
 -- condition fails, and with it what demand 3 says: other words are sent, or a message is refused.
 use Prim.Native.Nat.{ℕ}
@@ -90,6 +90,19 @@ expected =
       said =
           says (0x8000 ∷ 7 ∷ 0x480 ∷ 0x2C62 ∷ none) (0x8000 ∷ 8 ∷ 0x481 ∷ 0x2C82 ∷ [])
           ((0x2800 ∷ 12 ∷ 13 ∷ []) ∷ (0x2800 ∷ 11 ∷ 12 ∷ []) ∷ []) (3 ∷ 3 ∷ []) 0x2C62 0x2800;
+    }
+    -- twoTransfers
+    ∷ record {
+      asks = true;
+      old =
+          order (0x8880 ∷ 7 ∷ 0x4FE ∷ 0x2864 ∷ 0x9E00 ∷ 8 ∷ 0x500 ∷ 0x2883 ∷ 8 ∷ 0x482 ∷ 1 ∷ 3 ∷ 0 ∷ []) (0 ∷ 0 ∷ [])
+          ((0x2800 ∷ []) ∷ [] ∷ []) (3 ∷ 0x13 ∷ []) 0x2883 0x2C00;
+      new =
+          order (0x9E00 ∷ 8 ∷ 0x500 ∷ 0x2883 ∷ 0x8880 ∷ 7 ∷ 0x4FE ∷ 0x2864 ∷ 8 ∷ 0x482 ∷ 1 ∷ 3 ∷ 0 ∷ []) (0 ∷ 0 ∷ [])
+          ([] ∷ (0x2800 ∷ []) ∷ []) (0x13 ∷ 3 ∷ []) 0x2864 0x2800;
+      said =
+          says (0x9E00 ∷ 8 ∷ 0x500 ∷ 0x2883 ∷ 0x8880 ∷ 7 ∷ 0x4FE ∷ 0x2864 ∷ []) none
+          ([] ∷ (0x2800 ∷ []) ∷ []) (0x13 ∷ 3 ∷ []) 0x2864 0x2800;
     }
     -- oneCell: the words sent are not those that the messages sent before
     ∷ record {
