@@ -217,7 +217,7 @@ pub exported-read-answered :
     (bytes value after : List ℕ) (back : ℕ) →
     back ≡ readRecord bytes .number →
     after ≡ over value (valueWords (readRecord bytes .value)) →
-    Answered (recordTests (heardBytes bytes)) back after (λ n. over value (replicate 36 0)) bytes bytes
+    Answered (recordTests (heardBytes bytes)) back after (λ n. over value (replicate 37 0)) bytes bytes
 exported-read-answered bytes value after back e f =
     answered (recordTests (heardBytes bytes)) back after _ bytes bytes refl refl (e ∙ sym (record-number bytes))
     (λ m. f ∙ read-refused bytes value (λ z. m (e ∙ z)))

@@ -255,7 +255,7 @@ pub record Demand : Type 2 where
       calls.solkverva_read.Reads.Post calls.solkverva_read.Statement.statement
       (λ c.
       Answered (recordTests (heardBytes (now (c .given .0)))) (c .back) (c .left .1 .0)
-      (λ n. over (now (c .given .1 .0)) (replicate 36 0)) (now (c .given .0)) (now (c .given .0)))
+      (λ n. over (now (c .given .1 .0)) (replicate 37 0)) (now (c .given .0)) (now (c .given .0)))
   pub exported-write :
       Entry 2 calls.solkverva_write.Kinds.ps calls.solkverva_write.Kinds.r calls.solkverva_write.Reads.Pre
       calls.solkverva_write.Reads.Post calls.solkverva_write.Statement.statement
