@@ -42,15 +42,16 @@
  * A cell's number is its subaddress, with 32 added to transmit and 64 for broadcast.
  *
  * RT-to-RT transfers: a record with SOLKVERVA_TRANSFER is a message that another terminal sent to this one. Its bytes
- * 2-3, the last word of a value, hold the command that the other had; any word may stand there, it is not judged and not
- * stored. SOLKVERVA_NO_STATUS, SOLKVERVA_WRONG_GAP and SOLKVERVA_BAD_SECOND say what went wrong before the first data
- * word, alone or together. A record breaks its layout (5) with SOLKVERVA_TRANSFER on a transmit command, with one of
- * these three or a transmit command but no SOLKVERVA_TRANSFER, or with one of the three and a count that is not 0.
+ * 2-3, the last word of a value, hold the command that the other had; any word may stand there, it is not judged and
+ * not stored. SOLKVERVA_NO_STATUS, SOLKVERVA_WRONG_GAP and SOLKVERVA_BAD_SECOND say what went wrong before the first
+ * data word, alone or together. A record breaks its layout (5) with SOLKVERVA_TRANSFER on a transmit command, with one
+ * of these three or a transmit command but no SOLKVERVA_TRANSFER, or with one of the three and a count that is not 0.
  *
- * A caller built before there were transfers lends values of 36 words. What still holds: those words are where they were,
- * records and values with flags of 0 to 7 get the answers that they got, and the transmit command of a value of 36 words
- * is read as 0 and not written. What to change, where records may hold transfers:
- *   - Lend 37 words, SOLKVERVA_VALUE_WORDS; with 36 a transfer that is read and written again loses its transmit command.
+ * A caller built before there were transfers lends values of 36 words. What still holds: those words are where they
+ * were, records and values with flags of 0 to 7 get the answers that they got, and the transmit command of a value of
+ * 36 words is read as 0 and not written. What to change, where records may hold transfers:
+ *   - Lend 37 words, SOLKVERVA_VALUE_WORDS; with 36 a transfer that is read and written again loses its transmit
+ *     command.
  *   - The reader and the messages accept flags 8 to 127 by the rules above, where they answered 5.
  *   - Bits 11, 9, 2 and 1 of block status, which were always 0, tell the transfer and its three faults.
  */

@@ -19,6 +19,7 @@ pub fn explain(replay: &Replay, owners: &Owners, bytes: &[u8], answer: &Answer) 
     let mut lines = Vec::new();
     if unreadable == 0 {
         lines.push(asked(&record, &replay.settings, owners));
+        lines.extend(asked_of_the_other(&record, &replay.settings, owners));
     }
     if answer.number == 0 {
         lines.extend(accepted(replay, owners, &record, answer));
@@ -40,6 +41,20 @@ fn asked(record: &Record, settings: &Settings, owners: &Owners) -> String {
         record.tag,
         say::bus(record)
     )
+}
+
+/// Who sends in a transfer.
+fn asked_of_the_other(record: &Record, settings: &Settings, owners: &Owners) -> Option<String> {
+    let word = say::transmit_command(record)?;
+    let asked = say::command(word, settings, owners);
+    let what = if Command(word).is_transmit() {
+        ""
+    } else {
+        ", which is none; it is not judged"
+    };
+    Some(format!(
+        "a transfer with transmit command {word:04X}{what}: {asked}"
+    ))
 }
 
 fn accepted(replay: &Replay, owners: &Owners, record: &Record, answer: &Answer) -> Vec<String> {
