@@ -47,14 +47,12 @@ fn asked(record: &Record, settings: &Settings, owners: &Owners) -> String {
 fn asked_of_the_other(record: &Record, settings: &Settings, owners: &Owners) -> Option<String> {
     let word = say::transmit_command(record)?;
     let asked = say::command(word, settings, owners);
-    let what = if Command(word).is_transmit() {
-        ""
+    let said = format!("a transfer with transmit command {word:04X}");
+    Some(if Command(word).is_transmit() {
+        format!("{said}: {asked}")
     } else {
-        ", which is none; it is not judged"
-    };
-    Some(format!(
-        "a transfer with transmit command {word:04X}{what}: {asked}"
-    ))
+        format!("{said}, which is no transmit command ({asked}) and is not judged")
+    })
 }
 
 fn accepted(replay: &Replay, owners: &Owners, record: &Record, answer: &Answer) -> Vec<String> {

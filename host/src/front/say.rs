@@ -158,11 +158,11 @@ pub fn heard(record: &Record, block_status: u16) -> String {
     }
     if record.has_flag(FLAG_GAP) {
         wrong.push(format!(
-            "a wrong gap, sync or address in the status of {sender}"
+            "the status of {sender} had a wrong gap, sync or address"
         ));
     }
     if record.has_flag(FLAG_SECOND) {
-        wrong.push("a bad second command".into());
+        wrong.push("the second command was bad".into());
     }
     if block_status & 0x0020 != 0 {
         wrong.push(format!("{words} came and {expected} were expected"));
@@ -221,20 +221,14 @@ pub fn layout_faults(bytes: &[u8]) -> Vec<String> {
     let (flags, count) = (bytes[6], bytes[7]);
     let say = |rule: &Rule| match rule {
         Rule::ZeroBytes => "bytes 8-15 are not zero".to_string(),
-        Rule::Flags => format!("flags {flags} have the bit of 128"),
+        Rule::Flags => format!("flags {flags} have a bit over 64"),
         Rule::Count => format!("count {count} is over 33"),
         Rule::WordsAfter => format!("words after the first {count} are not zero"),
-        Rule::TransferReceives => {
-            "flag 8 says that this terminal receives, on a transmit command".to_string()
-        }
-        Rule::FaultOfTransfer => {
-            format!("flags {flags} have a transfer's fault and not flag 8")
-        }
-        Rule::CommandOfTransfer => {
-            "bytes 2-3 are not zero, as only a transfer's may be, and flag 8 is not set".to_string()
-        }
+        Rule::TransferReceives => "flag 8 is on a transmit command".to_string(),
+        Rule::FaultOfTransfer => format!("flags {flags} have one of 16 to 64 without flag 8"),
+        Rule::CommandOfTransfer => "bytes 2-3 are not zero without flag 8".to_string(),
         Rule::NoWordAfterFault => {
-            format!("count {count} is not 0, with flags of 16 to 64, after which no word comes")
+            format!("count {count} is not 0 with one of flags 16 to 64")
         }
     };
     broken_rules(bytes).iter().map(say).collect()
