@@ -130,7 +130,7 @@ pub fn command(word: u16, settings: &Settings, owners: &Owners) -> String {
 /// The command that the other terminal of a transfer had; none where there is
 /// no transfer.
 pub fn transmit_command(record: &Record) -> Option<u16> {
-    record.is_transfer().then(|| record.transmit_command)
+    record.is_transfer().then_some(record.transmit_command)
 }
 
 /// For the end of a sentence: `, a transfer from terminal 2`, or nothing.
@@ -144,15 +144,10 @@ fn sender(transmit_command: u16) -> String {
     format!("terminal {}", Command(transmit_command).address())
 }
 
-/// How a message went on the bus: what was heard, and what was wrong with it.
-pub fn heard(record: &Record, block_status: u16) -> String {
-    let expected = Command(record.command).expected_words();
-    let words = match record.count {
-        TOO_MANY => "more than 32 words".to_string(),
-        number => count(number.into(), "good word"),
-    };
-    let mut wrong = Vec::new();
+/// What went wrong with a transfer before its first word.
+fn transfer_faults(record: &Record) -> Vec<String> {
     let sender = sender(record.transmit_command);
+    let mut wrong = Vec::new();
     if record.has_flag(FLAG_NO_STATUS) {
         wrong.push(format!("{sender} gave no status"));
     }
@@ -164,6 +159,17 @@ pub fn heard(record: &Record, block_status: u16) -> String {
     if record.has_flag(FLAG_SECOND) {
         wrong.push("the second command was bad".into());
     }
+    wrong
+}
+
+/// How a message went on the bus: what was heard, and what was wrong with it.
+pub fn heard(record: &Record, block_status: u16) -> String {
+    let expected = Command(record.command).expected_words();
+    let words = match record.count {
+        TOO_MANY => "more than 32 words".to_string(),
+        number => count(number.into(), "good word"),
+    };
+    let mut wrong = transfer_faults(record);
     if block_status & 0x0020 != 0 {
         wrong.push(format!("{words} came and {expected} were expected"));
     }

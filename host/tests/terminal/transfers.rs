@@ -43,7 +43,7 @@ fn every_byte_of_flags() {
                         transmit_command,
                         ..heard(command, count, flags)
                     };
-                    let expected = is_refused(&record).then(|| 5);
+                    let expected = is_refused(&record).then_some(5);
                     let written = write_record(&record);
                     assert_eq!(written.err(), expected, "{record:?}");
                     kept += u32::from(expected.is_none());

@@ -118,7 +118,7 @@ impl Board {
     /// The value of a refused record; none where its layout is broken.
     pub fn record_of(&self, refused: &Refused) -> Option<Record> {
         let (number, record) = engine::read_record(&refused.bytes);
-        (number == 0).then(|| record)
+        (number == 0).then_some(record)
     }
 
     /// Why a record was refused. No message makes anything sound or unsound,
