@@ -1,7 +1,11 @@
-//! Which rules of its layout a record breaks, one by one, for people to read
-//! and for comparisons to count.
+//! The rules of a record's layout, one by one.
 
-use super::records::{taken_apart, ALL_FLAGS, RECORD_BYTES, TOO_MANY, TRANSFER_FAULTS, ZERO_BYTES};
+use super::planted::{
+    COUNT_WITH_TRANSFER_FAULT, NONE, TRANSFER_ON_TRANSMIT, UNMARKED_TRANSMIT_COMMAND,
+};
+use super::records::{
+    taken_apart, Record, RECORD_BYTES, TOO_MANY, TRANSFER_FAULTS, UNUSED_FLAGS, ZERO_BYTES,
+};
 use super::words::Command;
 
 #[derive(Clone, Copy, Debug, PartialEq, Eq)]
@@ -24,31 +28,42 @@ pub enum Rule {
     NoWordAfterFault,
 }
 
-/// The rules that are broken, in their order; none where the layout is kept.
-pub fn broken_rules(bytes: &[u8; RECORD_BYTES]) -> Vec<Rule> {
-    let record = taken_apart(bytes);
+/// The rules about a record's value, each with whether it is kept.
+#[inline(always)]
+pub(super) fn rules<const PLANTED: u8>(record: &Record) -> [(Rule, bool); 7] {
+    let words_after = &record.words[record.words_held()..];
     let transfer = record.is_transfer();
-    let transfer_fault = record.has_flag(TRANSFER_FAULTS);
-    let is_zero = |&word: &u16| word == 0;
-    let kept = [
-        (Rule::ZeroBytes, bytes[ZERO_BYTES] == [0; 8]),
-        (Rule::Flags, record.flags <= ALL_FLAGS),
+    let fault = record.has_flag(TRANSFER_FAULTS);
+    let receives = !transfer || !Command(record.command).is_transmit();
+    let command_marked = transfer || record.transmit_command == 0;
+    let no_word = !fault || record.count == 0;
+    [
+        (Rule::Flags, !record.has_flag(UNUSED_FLAGS)),
         (Rule::Count, record.count <= TOO_MANY),
-        (
-            Rule::WordsAfter,
-            record.words[record.words_held()..].iter().all(is_zero),
-        ),
+        (Rule::WordsAfter, words_after.iter().all(|&word| word == 0)),
         (
             Rule::TransferReceives,
-            !(transfer && Command(record.command).is_transmit()),
+            receives || PLANTED == TRANSFER_ON_TRANSMIT,
         ),
-        (Rule::FaultOfTransfer, transfer || !transfer_fault),
+        (Rule::FaultOfTransfer, transfer || !fault),
         (
             Rule::CommandOfTransfer,
-            transfer || record.transmit_command == 0,
+            command_marked || PLANTED == UNMARKED_TRANSMIT_COMMAND,
         ),
-        (Rule::NoWordAfterFault, !transfer_fault || record.count == 0),
-    ];
-    let broken = kept.iter().filter(|(_, kept)| !kept);
-    broken.map(|(rule, _)| *rule).collect()
+        (
+            Rule::NoWordAfterFault,
+            no_word || PLANTED == COUNT_WITH_TRANSFER_FAULT,
+        ),
+    ]
+}
+
+/// The rules that are broken, in their order; none where the layout is kept.
+pub fn broken_rules(bytes: &[u8; RECORD_BYTES]) -> Vec<Rule> {
+    let zero_bytes = (Rule::ZeroBytes, bytes[ZERO_BYTES] == [0; 8]);
+    let rules = rules::<NONE>(&taken_apart(bytes));
+    let broken = [zero_bytes].into_iter().chain(rules);
+    broken
+        .filter(|(_, kept)| !kept)
+        .map(|(rule, _)| rule)
+        .collect()
 }

@@ -2,12 +2,9 @@
 
 use std::ops::Range;
 
-use super::planted::{
-    with_planted, Planted, COUNT_WITH_TRANSFER_FAULT, NONE, TRANSFER_ON_TRANSMIT,
-    UNMARKED_TRANSMIT_COMMAND,
-};
+use super::layout::rules;
+use super::planted::{with_planted, Planted, NONE};
 use super::refusal;
-use super::words::Command;
 
 pub const RECORD_BYTES: usize = 80;
 pub const RECORD_WORDS: usize = 32;
@@ -27,8 +24,8 @@ pub const FLAG_SECOND: u16 = 64;
 /// What goes wrong with a transfer before its first data word.
 pub const TRANSFER_FAULTS: u16 = FLAG_NO_STATUS | FLAG_GAP | FLAG_SECOND;
 
-/// The largest flags that a record may have.
-pub(super) const ALL_FLAGS: u16 = 127;
+/// Flags that are none; those over a byte stand only in a value.
+pub(super) const UNUSED_FLAGS: u16 = 0xFF80;
 
 /// The count that stands for "more words than a record holds".
 pub const TOO_MANY: u16 = 33;
@@ -72,24 +69,7 @@ impl Record {
     }
 
     fn keeps_layout_with<const PLANTED: u8>(&self) -> bool {
-        self.flags <= ALL_FLAGS
-            && self.count <= TOO_MANY
-            && self.words[self.words_held()..]
-                .iter()
-                .all(|&word| word == 0)
-            && self.keeps_transfer_rules::<PLANTED>()
-    }
-
-    /// Whether the flags of a transfer, or that it is none, go with the rest.
-    fn keeps_transfer_rules<const PLANTED: u8>(&self) -> bool {
-        let has_fault = self.has_flag(TRANSFER_FAULTS);
-        if self.is_transfer() {
-            let is_transmit = Command(self.command).is_transmit();
-            (!is_transmit || PLANTED == TRANSFER_ON_TRANSMIT)
-                && (!has_fault || self.count == 0 || PLANTED == COUNT_WITH_TRANSFER_FAULT)
-        } else {
-            !has_fault && (self.transmit_command == 0 || PLANTED == UNMARKED_TRANSMIT_COMMAND)
-        }
+        rules::<PLANTED>(self).iter().all(|(_, kept)| *kept)
     }
 
     /// Refuses with 5 a value that breaks the layout.
