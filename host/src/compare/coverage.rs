@@ -1,5 +1,7 @@
 //! What a comparison has met: how often each class of case occurred.
 
+mod transfers;
+
 use super::case::{Answers, Message, Request, State};
 use super::classes;
 use crate::terminal::cells::{Cell, Kind, Scheme, Stack, RAM_WORDS};
@@ -20,10 +22,20 @@ classes! {
     Refused4 "refused with 4, record length",
     Refused5 "refused with 5, record layout (bytes)",
     Refused5Value "refused with 5, record layout (value)",
+    ZeroBytes5 "refused with 5 for bytes 8-15 alone",
+    Flags5 "refused with 5 for flag 128 alone",
+    Count5 "refused with 5 for the count alone",
+    WordsAfter5 "refused with 5 for words after the counted ones alone",
+    TransferReceives5 "refused with 5 for flag 8 on a transmit command alone",
+    FaultOfTransfer5 "refused with 5 for flags 16 to 64 without flag 8 alone",
+    CommandOfTransfer5 "refused with 5 for bytes 2-3 without flag 8 alone",
+    NoWordAfterFault5 "refused with 5 for a count with flags 16 to 64 alone",
     Refused6 "refused with 6, address",
     Refused7 "refused with 7, subaddress",
     Refused8 "refused with 8, stack",
     Refused9 "refused with 9, cell",
+    Transfer6 "transfer refused with 6",
+    Transfer7 "transfer refused with 7",
     SingleReceive "single, receive",
     SingleTransmit "single, transmit",
     SingleBroadcast "single, broadcast",
@@ -58,6 +70,17 @@ classes! {
     InvalidWord "invalid word",
     SyncAndInvalid "sync fault and invalid word",
     BusB "bus B",
+    GoodTransfer "transfer without a fault",
+    BroadcastTransfer "transfer, broadcast",
+    TransferFromZero "transfer with transmit command 0",
+    TransferCount "transfer with a count fault",
+    TransferData "transfer with wrong sync or an invalid word",
+    TransferNoStatus "transfer without a status",
+    TransferGap "transfer with a wrong gap",
+    TransferSecond "transfer with a bad second command",
+    TransferTwoFaults "transfer with two of the last three",
+    TransferThreeFaults "transfer with all three",
+    TransferBesideData "transfer with one of the three beside wrong sync or an invalid word",
     CountZero "no words",
     CountOver "more than 32 words",
     CountFieldZero "count field 0",
@@ -150,6 +173,7 @@ impl Coverage {
         let answer = &answers.answer;
         if answer.number != 0 {
             self.take_in_refusal(before, from_bytes, answer.number);
+            self.take_in_refused_record(&request.message, answer.number);
         } else if let (Some(record), Some((cell, stack))) =
             (record_of(&request.message), &before.cell)
         {
@@ -239,6 +263,7 @@ impl Coverage {
     ) {
         self.note(Class::Accepted, true);
         self.take_in_record(record);
+        self.take_in_transfer(record, answer);
         self.take_in_answer(settings, answer);
         let moved = if Command(record.command).is_transmit() {
             answer.sent

@@ -40,6 +40,8 @@ classes! {
     Illegal "exchanges with an illegal message",
     Busy "exchanges with a busy message",
     Broadcast "exchanges with a broadcast message",
+    Transfer "exchanges with a good transfer",
+    TransferFault "exchanges with a transfer without status, with a wrong gap or a bad second command",
     Equal "exchanges with a message that has an equal in its list",
     KeptCell "neighbours left in place: one cell",
     KeptReceives "neighbours left in place: two receives, windows meet",
@@ -146,7 +148,11 @@ impl Coverage {
         let illegal = pair.iter().any(|answer| answer.block_status & 0x0040 != 0);
         let busy = pair.iter().any(|answer| answer.status & 0x0008 != 0);
         let moves = |answer: &&Answer| answer.pointer_before != answer.pointer_after;
+        let transfer = |answer: &&Answer| answer.block_status & 0x1800 == 0x0800;
+        let transfer_fault = |answer: &&Answer| answer.block_status & 0x0206 != 0;
         self.note(if faulty { Faulty } else { Faultless }, true);
+        self.note(Transfer, pair.iter().any(transfer));
+        self.note(TransferFault, pair.iter().any(transfer_fault));
         self.note(Illegal, illegal);
         self.note(Busy, busy);
         self.note(PointersMove, pair.iter().all(moves));

@@ -20,6 +20,7 @@ pub fn explain(replay: &Replay, owners: &Owners, bytes: &[u8], answer: &Answer) 
     let mut lines = Vec::new();
     if unreadable == 0 {
         lines.push(asked(&record, &replay.settings, owners));
+        lines.extend(asked_of_the_other(&record, &replay.settings, owners));
     }
     if answer.number == 0 {
         lines.extend(accepted(replay, owners, &record, answer));
@@ -41,6 +42,18 @@ fn asked(record: &Record, settings: &Settings, owners: &Owners) -> String {
         record.tag,
         say::bus(record)
     )
+}
+
+/// Who sends in a transfer.
+fn asked_of_the_other(record: &Record, settings: &Settings, owners: &Owners) -> Option<String> {
+    let word = say::transmit_command(record)?;
+    let asked = say::command(word, settings, owners);
+    let said = format!("a transfer with transmit command {word:04X}");
+    Some(if Command(word).is_transmit() {
+        format!("{said}: {asked}")
+    } else {
+        format!("{said}, which is no transmit command ({asked}) and is not judged")
+    })
 }
 
 fn accepted(replay: &Replay, owners: &Owners, record: &Record, answer: &Answer) -> Vec<String> {

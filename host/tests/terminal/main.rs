@@ -16,4 +16,5 @@ mod samples;
 mod spread;
 mod text;
 mod trace;
+mod transfers;
 mod who;

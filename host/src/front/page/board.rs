@@ -12,7 +12,7 @@ use crate::front::say;
 use crate::front::source::Source;
 use crate::terminal::cells::Kind;
 use crate::terminal::label::{AreaLabel, Sharer};
-use crate::terminal::{Answer, Settings};
+use crate::terminal::{Answer, Record, Settings};
 use crate::text::Owners;
 
 /// Cells are numbered below this.
@@ -115,10 +115,10 @@ impl Board {
         });
     }
 
-    /// The command of a refused record; none where its layout is broken.
-    pub fn command_of(&self, refused: &Refused) -> Option<u16> {
+    /// The value of a refused record; none where its layout is broken.
+    pub fn record_of(&self, refused: &Refused) -> Option<Record> {
         let (number, record) = engine::read_record(&refused.bytes);
-        (number == 0).then(|| record.command)
+        (number == 0).then_some(record)
     }
 
     /// Why a record was refused. No message makes anything sound or unsound,
