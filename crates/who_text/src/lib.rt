@@ -1,2 +1,3 @@
-// The answer to "Who put this word here" as a line. Document 02, request 10.
+// The question "Who put this word here" and its answer as text. Document 02, request 10.
+pub mod address;
 pub mod line;
