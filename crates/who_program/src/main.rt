@@ -57,7 +57,13 @@ fn replay(ram: &mut [u16], buffer: &mut [u8], out: &mut [u8], address: u16) {
 }
 
 // The image, and then the trace.
-fn image_and_trace(ram: &mut [u16], image: &mut [u8], buffer: &mut [u8], out: &mut [u8], address: u16) {
+fn image_and_trace(
+    ram: &mut [u16],
+    image: &mut [u8],
+    buffer: &mut [u8],
+    out: &mut [u8],
+    address: u16,
+) {
     let filled = fill(image);
     if filled.failed {
         return;
