@@ -14,8 +14,8 @@
  * record that is read 80 bytes, no more and no fewer.
  *
  * All else may have any length. What is missing of settings, remembered or value is read as 0. What remembered, answer,
- * value, listing, counts, unsound, pairs, numbers, marks, records, last, part or the bytes that are written have no room
- * for is dropped; where they are longer, the rest keeps its contents.
+ * value, listing, counts, unsound, pairs, description, numbers, marks, records, last, part or the bytes that are
+ * written have no room for is dropped; where they are longer, the rest keeps its contents.
  *
  * settings: RT address; area (0 is A, any other word B); stack size in words; then yes/no (0 is no): overwrite-invalid,
  *   separate-broadcast, illegal-receive-disable, busy-receive-disable, busy-always, service request, subsystem flag,
@@ -29,6 +29,11 @@
  * counts: how many cells are unsound; how many pairs there are in all, whatever room pairs have.
  * unsound: the numbers of the unsound cells, rising; then 0.
  * pairs: a word for each pair, rising: the lower number in the high byte, the higher in the low byte.
+ *
+ * description: of a cell its kind (0 receive, 1 transmit, 2 broadcast), its subaddress, 1 where the whole-area check
+ *   reads it or else 0, its scheme (1 single, 2 double, 3 circular), its pointer, the first word of its window, how many
+ *   words the window has, its faults; of the stack its pointer, the first word of its block, how many words the block
+ *   has, its faults. Faults are added up; there are none, 0, exactly where it is sound.
  *
  * numbers, marks: for each address of RAM a number and a word, all 0 at first; a trace fills them, and
  *   solkverva_who_entry tells what they say. Lend both with 4,096.
@@ -62,6 +67,8 @@ enum {
     SOLKVERVA_COUNTS_WORDS = 2,
     SOLKVERVA_UNSOUND_WORDS = 90,
     SOLKVERVA_PAIRS_WORDS = 4005, /* the most there can be */
+    SOLKVERVA_CELL_DESCRIPTION_WORDS = 8,
+    SOLKVERVA_STACK_DESCRIPTION_WORDS = 4,
     SOLKVERVA_PART_WORDS = 3,
     SOLKVERVA_RECORD_BYTES = 80
 };
@@ -81,6 +88,25 @@ enum {
     SOLKVERVA_UNSOUND_STACK = 8,   /* stack unsound */
     SOLKVERVA_UNSOUND_CELL = 9,    /* the message's cell unsound, or a cell of the area, or the cell that is asked for */
     SOLKVERVA_ADDRESS_BEYOND = 12  /* an address beyond the RAM */
+};
+
+/* Why a cell is unsound, added up: the last number of its description. */
+enum {
+    SOLKVERVA_CELL_POINTER_OUTSIDE = 1,  /* its pointer is outside RAM */
+    SOLKVERVA_CELL_WINDOW_OVER_END = 2,  /* its window goes over RAM's end */
+    SOLKVERVA_CELL_DOUBLE_OFF = 4,       /* its double pointer is no multiple of 32 */
+    SOLKVERVA_CELL_MEETS_LOW_AREA = 8,   /* its window meets the fixed area 0100-0247 */
+    SOLKVERVA_CELL_MEETS_HIGH_AREA = 16, /* its window meets the fixed area 0300-03FF */
+    SOLKVERVA_CELL_MEETS_STACK = 32      /* its window meets the active stack */
+};
+
+/* Why the stack is unsound, added up. */
+enum {
+    SOLKVERVA_STACK_POINTER_OFF = 1,      /* its pointer is no multiple of 4 */
+    SOLKVERVA_STACK_POINTER_OVER = 2,     /* its pointer is over 0FFC */
+    SOLKVERVA_STACK_BLOCK_OVER_END = 4,   /* its block goes over RAM's end */
+    SOLKVERVA_STACK_MEETS_LOW_AREA = 8,   /* its block meets the fixed area 0100-0247 */
+    SOLKVERVA_STACK_MEETS_HIGH_AREA = 16  /* its block meets the fixed area 0300-03FF */
 };
 
 /* The whole-area check: the number (0, 1, 3, 8 or 9) in the upper 16 bits, and in the lower with 9 the lowest unsound
@@ -110,6 +136,15 @@ uint16_t solkverva_label_cell(const uint16_t *ram, size_t ram_words, const uint1
 uint16_t solkverva_label_area(const uint16_t *ram, size_t ram_words, const uint16_t *settings, size_t settings_words,
                               uint16_t *counts, size_t counts_words, uint16_t *unsound, size_t unsound_words,
                               uint16_t *pairs, size_t pairs_words);
+
+/* What a cell is like, read or not and sound or not: its description. There is no cell from 96 on: such a number is
+ * described as a broadcast cell that is not read, its subaddress the remainder by 32. The number: 0, 1 or 3. */
+uint16_t solkverva_describe_cell(const uint16_t *ram, size_t ram_words, const uint16_t *settings, size_t settings_words,
+                                 uint16_t cell, uint16_t *description, size_t description_words);
+
+/* What the stack is like, sound or not: its description. The number: 0, 1 or 3. */
+uint16_t solkverva_describe_stack(const uint16_t *ram, size_t ram_words, const uint16_t *settings,
+                                  size_t settings_words, uint16_t *description, size_t description_words);
 
 /* Who put each word where it is: goes on over all whole records of this part of a trace. RAM holds the image at first, and
  * what the records leave afterwards; lend each part what the one before left. A refused record is counted and writes

@@ -10,10 +10,12 @@ pub mod who;
 pub use who::Walk;
 
 use crate::terminal::boundary::{
-    answer_of, area_label_of, record_of, remembered_of, remembered_words, settings_words,
-    sharers_of, value_words, ANSWER_WORDS, COUNTS_WORDS, LISTING_WORDS, PAIRS_WORDS, UNSOUND_WORDS,
-    VALUE_WORDS,
+    answer_of, area_label_of, cell_description_of, record_of, remembered_of, remembered_words,
+    settings_words, sharers_of, stack_description_of, value_words, ANSWER_WORDS,
+    CELL_DESCRIPTION_WORDS, COUNTS_WORDS, LISTING_WORDS, PAIRS_WORDS, STACK_DESCRIPTION_WORDS,
+    UNSOUND_WORDS, VALUE_WORDS,
 };
+use crate::terminal::described::{CellDescription, StackDescription};
 use crate::terminal::label::{AreaLabel, Sharer};
 use crate::terminal::records::RECORD_BYTES;
 use crate::terminal::{Answer, MessageRef, Record, Remembered, Settings};
@@ -65,6 +67,24 @@ pub fn label_area(ram: &[u16], settings: &Settings) -> Result<AreaLabel, u16> {
     let words = settings_words(settings);
     match boundary::label_area(ram, &words, &mut counts, &mut unsound, &mut pairs) {
         0 => Ok(area_label_of(counts, &unsound, &pairs)),
+        number => Err(number),
+    }
+}
+
+/// A cell by its number, sound or not.
+pub fn describe_cell(ram: &[u16], settings: &Settings, cell: u16) -> Result<CellDescription, u16> {
+    let mut description = [0; CELL_DESCRIPTION_WORDS];
+    match boundary::describe_cell(ram, &settings_words(settings), cell, &mut description) {
+        0 => Ok(cell_description_of(&description)),
+        number => Err(number),
+    }
+}
+
+/// The stack, sound or not.
+pub fn describe_stack(ram: &[u16], settings: &Settings) -> Result<StackDescription, u16> {
+    let mut description = [0; STACK_DESCRIPTION_WORDS];
+    match boundary::describe_stack(ram, &settings_words(settings), &mut description) {
+        0 => Ok(stack_description_of(&description)),
         number => Err(number),
     }
 }

@@ -2,6 +2,7 @@
 
 pub mod boundary;
 pub mod cells;
+pub mod described;
 pub mod label;
 pub mod message;
 pub mod planted;

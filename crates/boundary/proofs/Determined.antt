@@ -3,6 +3,7 @@
 use mathlib.Core.Path.{refl}
 use Rattle.words.proofs.Settled.{determined, Settled}
 use Rattle.boundary.proofs.calls
+use Rattle.boundary.proofs.descriptions
 use Rattle.boundary.proofs.origins
 
 pub check-area-settled : Settled 2 calls.solkverva_check_area.Kinds.ps calls.solkverva_check_area.Kinds.r calls.solkverva_check_area.Reads.Post
@@ -88,3 +89,13 @@ who-settled κs a x y v w p q = (
     ),
   ),
 )
+
+pub describe-cell-settled :
+    Settled 3 descriptions.solkverva_describe_cell.Kinds.ps descriptions.solkverva_describe_cell.Kinds.r descriptions.solkverva_describe_cell.Reads.Post
+describe-cell-settled κs a x y v w p q =
+    (determined (p .0) (q .0), λ i. (v .0, (v .1 .0, (v .1 .1 .0, (determined (p .1) (q .1) i, v .1 .1 .1 .1)))))
+
+pub describe-stack-settled :
+    Settled 3 descriptions.solkverva_describe_stack.Kinds.ps descriptions.solkverva_describe_stack.Kinds.r descriptions.solkverva_describe_stack.Reads.Post
+describe-stack-settled κs a x y v w p q =
+    (determined (p .0) (q .0), λ i. (v .0, (v .1 .0, (determined (p .1) (q .1) i, v .1 .1 .1))))

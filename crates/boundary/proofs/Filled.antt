@@ -4,8 +4,8 @@ use mathlib.Core.Path.{_≡_}
 use mathlib.Core.List.{List, [], _∷_}
 use Rattle.words.specs.declared.settings.Settings.{Settings}
 use Rattle.message.specs.Heard.{Heard}
-use Rattle.who.specs.declared.table.Filling.{Filling}
-use Rattle.who.specs.Table.{tablesOf, filledWith}
+use Rattle.tables.specs.declared.table.Filling.{Filling}
+use Rattle.tables.specs.Table.{tablesOf, filledWith}
 use Rattle.lent.specs.Over.{over}
 use Rattle.lent.specs.Setup.{rememberedWords}
 use Rattle.boundary.specs.Origins.{LentTables, lentTablesOf, tablesIn, tablesBack, tablesAfter}

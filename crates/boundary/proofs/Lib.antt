@@ -2,5 +2,6 @@ pub mod Called
 pub mod Filled
 pub mod Refused
 pub mod NotTold
+pub mod NotDescribed
 pub mod Halves
 pub mod Determined

@@ -11,7 +11,7 @@ use Rattle.who.specs.declared.origin.Who.{Who}
 use Rattle.who.specs.declared.origin.Who.the-variants.{Refused, AsInImage, Written}
 use Rattle.who.specs.Tests.{replayRefusal, whoRefusal}
 use Rattle.who.specs.Replay.{goneOn, refusedAt, asked}
-use Rattle.who.specs.Table.{filledWith}
+use Rattle.tables.specs.Table.{filledWith}
 use Rattle.who.specs.Values.{valuesOf}
 use Rattle.boundary.specs.Origins.{partWords, LentTables, fillingFrom, tablesBack, tablesAfter}
 use Rattle.boundary.proofs.Refused.{remembered-kept}

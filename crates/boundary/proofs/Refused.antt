@@ -46,7 +46,7 @@ message-refused s h l m =
 pub read-refused :
     (bytes xs : List ℕ) →
     (readRecord bytes .number ≡ 0 → ⊥) →
-    over xs (valueWords (readRecord bytes .value)) ≡ over xs (replicate 36 0)
+    over xs (valueWords (readRecord bytes .value)) ≡ over xs (replicate 37 0)
 unfolding readRecord notRead valueWords zeroValue
 read-refused bytes xs m =
     ⊎-elim (λ b. absurd (m (rw b))) (λ b. rw b) (yes-or-no (eqb (readerRefusal bytes) 0))

@@ -4,9 +4,9 @@ use mathlib.Core.List.{List, [], _∷_}
 use lib.ListN.{getD}
 use Rattle.words.specs.declared.settings.Settings.{Settings}
 use Rattle.message.specs.Heard.{Heard}
-use Rattle.who.specs.declared.table.Filling.{Filling}
+use Rattle.tables.specs.declared.table.Filling.{Filling}
 use Rattle.who.specs.declared.values.Values.{Values}
-use Rattle.who.specs.Table.{Tables, tablesOf, filledWith}
+use Rattle.tables.specs.Table.{Tables, tablesOf, filledWith}
 use Rattle.lent.specs.Over.{over}
 use Rattle.lent.specs.Setup.{rememberedFrom, rememberedWords}
 

@@ -1,3 +1,4 @@
 pub mod Replied
 pub mod Carried
+pub mod TwoRuns
 pub mod Determined

@@ -52,12 +52,13 @@ pub(crate) fn settings(address: u16, second: u16, size: u16, yes: u16) -> Settin
     }
 }
 
-// Command, count, flags, first word, step to the next, tag; as many words as the count says.
-fn record_of(n: Numbers) -> Record {
+// Command, count, flags, first word, step to the next, tag; as many words as the count says. The transmit command is given before.
+fn record_of(n: Numbers, from: u16) -> Record {
     let mut words = [0u16; 32];
     fill(&mut words, 0, n.b, n.d, n.e);
     Record {
         command: n.a,
+        transmit_command: from,
         tag: n.f,
         flags: (n.c % 256) as u8,
         count: (n.b % 256) as u8,
@@ -65,7 +66,7 @@ fn record_of(n: Numbers) -> Record {
     }
 }
 
-// The bench after a line that changes the settings, the lengths, the record, or a word of the record.
+// The bench after a line that changes the settings, the lengths, the transmit command, the record, or a word of the record.
 pub(crate) fn built(b: Bench, name: u64, n: Numbers) -> Bench {
     let mut next = b;
     match name {
@@ -77,6 +78,11 @@ pub(crate) fn built(b: Bench, name: u64, n: Numbers) -> Bench {
             next.ram = n.a as usize;
             next.room = n.b as usize;
         }
+        names::FROM => {
+            let mut v = b.record;
+            v.transmit_command = n.a;
+            next.record = v;
+        }
         names::WORD => {
             let mut v = b.record;
             let mut words = v.words;
@@ -85,7 +91,8 @@ pub(crate) fn built(b: Bench, name: u64, n: Numbers) -> Bench {
             next.record = v;
         }
         _ => {
-            let v = record_of(n);
+            let last = b.record;
+            let v = record_of(n, last.transmit_command);
             next.record = v;
         }
     }

@@ -14,6 +14,8 @@ pub(crate) const PUT: u64 = 0x70_75_74; // put
 
 pub(crate) const FILL: u64 = 0x66_69_6C_6C; // fill
 
+pub(crate) const FROM: u64 = 0x66_72_6F_6D; // from
+
 pub(crate) const RECORD: u64 = 0x72_65_63_6F_72_64; // record
 
 pub(crate) const WORD: u64 = 0x77_6F_72_64; // word

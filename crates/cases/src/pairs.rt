@@ -15,6 +15,7 @@ fn heard(command: u16, word: u16) -> Record {
     words[0] = word;
     Record {
         command,
+        transmit_command: 0,
         tag: 0,
         flags: 0,
         count: (word != 0) as u8,

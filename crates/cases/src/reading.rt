@@ -6,6 +6,10 @@ use crate::show::word;
 use layout::reader::Reading;
 use layout::reader::join;
 use layout::writer::Written;
+use records::transfer::bad_second;
+use records::transfer::is_transfer;
+use records::transfer::no_status;
+use records::transfer::wrong_gap;
 use records::value::Record;
 use records::value::bus_b;
 use records::value::invalid_word;
@@ -37,11 +41,31 @@ pub(crate) fn front(bytes: &[u8], n: u16) -> &[u8] {
     bytes
 }
 
-// Number, command, tag, flags and count, the flags one by one, and the words.
+// Of a transfer: its transmit command, and its flags one by one.
+fn transfer(v: Record) {
+    if is_transfer(v) {
+        show(
+            b" transfer from $ no status ? gap ? second ?",
+            [
+                v.transmit_command,
+                no_status(v) as u16,
+                wrong_gap(v) as u16,
+                bad_second(v) as u16,
+                0,
+                0,
+                0,
+                0,
+                0,
+            ],
+        );
+    }
+}
+
+// Number, command, tag, flags and count, the flags one by one, what a transfer has, and the words.
 fn reading(r: Reading) {
     let v = r.value;
     show(
-        b" % $ $ % % bus B ? sync ? invalid ?:",
+        b" % $ $ % % bus B ? sync ? invalid ?",
         [
             r.number,
             v.command,
@@ -54,6 +78,8 @@ fn reading(r: Reading) {
             0,
         ],
     );
+    transfer(v);
+    io::write_all(1, b":");
     let words = v.words;
     shown(&words, 0, 32);
 }

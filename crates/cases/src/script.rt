@@ -87,7 +87,9 @@ fn done(
         names::PUT => put(memory, n.a as usize, n.b),
         names::FILL => ram::fill(memory, n.a, n.b, n.c, n.d),
         names::CLEAR => return bench::cleared(memory, reply),
-        names::SET | names::LEND | names::RECORD | names::WORD => return bench::built(b, name, n),
+        names::SET | names::LEND | names::FROM | names::RECORD | names::WORD => {
+            return bench::built(b, name, n);
+        }
         names::AGAIN => return bench::after(b, messages::served(memory, reply, b, n.a)),
         _ => return answered(text, memory, reply, b, name, n, number),
     }

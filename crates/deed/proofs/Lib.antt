@@ -1,4 +1,5 @@
 pub mod Reach
 pub mod Contained
 pub mod StatusBits
+pub mod Before
 pub mod Determined

@@ -2,6 +2,7 @@
 use mathlib.Core.Bool.{not, _&&_}
 use Rattle.records.specs.declared.value.Record.{Record}
 use Rattle.records.specs.Value.{onBusB}
+use Rattle.records.specs.Transfer.{isTransfer}
 use Rattle.words.specs.declared.settings.Settings.{Settings}
 use Rattle.arrival.specs.declared.target.Target.{Target}
 use Rattle.deed.specs.declared.act.Act.{Act}
@@ -34,7 +35,7 @@ deedWith s t v a m =
       before = t .cell .pointer;
       moves = m .moves;
       after = m .after;
-      «block_status» = blockStatus (onBusB v) (a .faults) (m .rollover) (t .illegal);
+      «block_status» = blockStatus (onBusB v) (isTransfer v) (a .faults) (m .rollover) (t .illegal);
       status = statusWord s t (a .valid);
       answered = a .valid && not (t .broadcast);
       signals = signalsOf t a m;

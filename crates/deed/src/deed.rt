@@ -8,6 +8,7 @@ use crate::motion::motion_of;
 use crate::report::block_status;
 use crate::report::status_word;
 use arrival::target::Target;
+use records::transfer::is_transfer;
 use records::value::Record;
 use records::value::bus_b;
 use windows::window::Window;
@@ -67,7 +68,7 @@ fn deed_with(s: Settings, t: Target, v: Record, a: Act, m: Motion) -> Deed
         before: c.pointer,
         moves: m.moves,
         after: m.after,
-        block_status: block_status(bus_b(v), faults, m.rollover, t.illegal),
+        block_status: block_status(bus_b(v), is_transfer(v), faults, m.rollover, t.illegal),
         status: status_word(s, t, a.valid),
         answered: both(a.valid, no(t.broadcast)),
         signals,

@@ -9,8 +9,14 @@ use words::choose::either;
 use words::choose::no;
 use words::settings::Settings;
 
-pub(crate) fn block_status(second_bus: bool, f: Faults, rollover: bool, illegal: bool) -> u16
-    ensures { λ r. ⌜ r ≡ blockStatus «second_bus» f rollover illegal ⌝ }
+pub(crate) fn block_status(
+    second_bus: bool,
+    transfer: bool,
+    f: Faults,
+    rollover: bool,
+    illegal: bool,
+) -> u16
+    ensures { λ r. ⌜ r ≡ blockStatus «second_bus» transfer f rollover illegal ⌝ }
 {
     let fault = any_fault(f);
     word_of([
@@ -18,17 +24,17 @@ pub(crate) fn block_status(second_bus: bool, f: Faults, rollover: bool, illegal:
         false,
         second_bus,
         fault,
-        false,
+        transfer,
         fault,
-        false,
+        f.no_status,
         false,
         rollover,
         illegal,
         f.count,
         f.sync,
         f.invalid,
-        false,
-        false,
+        f.gap,
+        f.second,
         f.contents,
     ])
 }

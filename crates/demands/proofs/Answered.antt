@@ -44,12 +44,13 @@ use Rattle.lent.specs.Over.{over}
 use Rattle.boundary.specs.Check.{checkWord}
 use Rattle.lent.specs.Values.{valueWords}
 use Rattle.boundary.specs.Call.{Lent, lentOf, stateIn, callNumber, lentAfter}
-use Rattle.boundary.proofs.Refused.{message-refused, read-refused, write-refused}
+use Rattle.lent.specs.Labels.{listingWords, countWords}
+use Rattle.boundary.proofs.Refused.{message-refused, read-refused, write-refused, label-cell-refused, counts-refused, unsound-refused, pairs-refused}
 use Rattle.boundary.proofs.Halves.{upper-half, lower-half}
 use Rattle.demands.specs.First.{writerTests, ExportedAnswered, TakeAnswered, rising, Answered, MessageAnswered, CheckAnswered, ReadAnswered, WriteAnswered}
 
 -- where the number is that of the first test that holds, what is left to show is what a refusal gives back and leaves
-answered :
+pub answered :
     (tests : List Test) {Back Lent : Type 0} (number : ℕ) (back : Back) (refusal : ℕ → Back) (before after : Lent) →
     rising tests ≡ true →
     numbered tests ≡ true →
@@ -96,7 +97,7 @@ check-answered ram s back e =
     }
 
 -- what is given back by the number of the first test that holds, where nothing is lent to be changed
-by-number :
+pub by-number :
     (tests : List Test) {Back Lent : Type 0} (numberOf : Back → ℕ) (back done : Back) (refusal : ℕ → Back)
     (lent : Lent) →
     rising tests ≡ true →
@@ -216,7 +217,7 @@ pub exported-read-answered :
     (bytes value after : List ℕ) (back : ℕ) →
     back ≡ readRecord bytes .number →
     after ≡ over value (valueWords (readRecord bytes .value)) →
-    Answered (recordTests (heardBytes bytes)) back after (λ n. over value (replicate 36 0)) bytes bytes
+    Answered (recordTests (heardBytes bytes)) back after (λ n. over value (replicate 37 0)) bytes bytes
 exported-read-answered bytes value after back e f =
     answered (recordTests (heardBytes bytes)) back after _ bytes bytes refl refl (e ∙ sym (record-number bytes))
     (λ m. f ∙ read-refused bytes value (λ z. m (e ∙ z)))
@@ -237,3 +238,32 @@ exported-write-answered value bytes after v back e f =
     answered (writerTests v) back after _ value value refl refl (e ∙ writer-number v)
     (λ m. f ∙ write-refused v bytes (λ z. m (e ∙ z)))
     (λ m. refl)
+
+pub exported-cell-labelled :
+    (ram : List ℕ) (s : Settings) (cell number : ℕ) (listing after : List ℕ) →
+    number ≡ cellLabel ram s cell .number →
+    after ≡ over listing (listingWords (cellLabel ram s cell)) →
+    Answered (cellTests ram s cell) number after (λ n. over listing (replicate 179 0)) ram ram
+unfolding cellLabel cellAnswer cellRefusal
+exported-cell-labelled ram s cell number listing after e f =
+    answered (cellTests ram s cell) number after _ ram ram refl refl e
+    (λ m. f ∙ label-cell-refused ram s cell listing (λ z. m (e ∙ z)))
+    (λ m. refl)
+
+pub exported-area-labelled :
+    (ram : List ℕ) (s : Settings) (number : ℕ) (counts unsound pairs counts′ unsound′ pairs′ : List ℕ) →
+    number ≡ areaLabel ram s .number →
+    counts′ ≡ over counts (countWords (areaLabel ram s)) →
+    unsound′ ≡ over unsound (areaLabel ram s .unsound) →
+    pairs′ ≡ pairsInto ram s pairs →
+    Answered (groundTests ram s) number (counts′ ∷ unsound′ ∷ [])
+    (λ n. over counts (replicate 2 0) ∷ over unsound (replicate 90 0) ∷ [])
+    pairs
+    pairs′
+unfolding areaLabel areaAnswer groundRefusal
+exported-area-labelled ram s number counts unsound pairs counts′ unsound′ pairs′ e f g h =
+    answered (groundTests ram s) number (counts′ ∷ unsound′ ∷ []) _ pairs pairs′ refl refl e
+    (λ m.
+    let no : (areaLabel ram s .number ≡ 0 → ⊥) = λ z. m (e ∙ z) in
+    rw (f, g, counts-refused ram s counts no, unsound-refused ram s unsound no))
+    (λ m. h ∙ pairs-refused ram s pairs (λ z. m (e ∙ z)))

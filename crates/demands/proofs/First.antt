@@ -5,15 +5,25 @@ use Rattle.layout.proofs.writer
 use Rattle.area.proofs.area
 use Rattle.label.proofs.one
 use Rattle.label.proofs.whole
+use Rattle.described.proofs.cell as described-cell
+use Rattle.described.proofs.stack as described-stack
+use Rattle.boundary.proofs.descriptions
+use Rattle.demands.proofs.Described.{cell-described, stack-described, exported-cell-described, exported-stack-described}
 use Rattle.message.proofs.serve
 use Rattle.trace.proofs.walk
+use Rattle.who.specs.Replay.{heardIn}
+use Rattle.who.proofs.question
+use Rattle.tables.proofs.table
 use Rattle.view.proofs.view
 use Rattle.lent.specs.Setup.{settingsFrom}
 use Rattle.lent.specs.Values.{valueFrom}
+use Rattle.boundary.specs.Origins.{lentTablesOf}
 use Rattle.boundary.proofs.calls
+use Rattle.boundary.proofs.origins
 use Rattle.demands.specs.Calls.{fromBytes, fromValue, walked, exportedBytes, exportedValue}
 use Rattle.demands.specs.First.{MessageAnswered, Demand}
-use Rattle.demands.proofs.Answered.{step-answered, message-answered, check-answered, read-answered, write-answered, cell-labelled, area-labelled, take-answered, exported-answered, exported-check, exported-read-answered, exported-write-answered}
+use Rattle.demands.proofs.Answered.{step-answered, message-answered, check-answered, read-answered, write-answered, cell-labelled, area-labelled, take-answered, exported-answered, exported-check, exported-read-answered, exported-write-answered, exported-cell-labelled, exported-area-labelled}
+use Rattle.demands.proofs.Asked.{ask-answered, go-on-answered, fill-answered, entry-answered, exported-who-answered, exported-fill-answered, exported-entry-answered}
 use Rattle.demands.proofs.Walks.{walks}
 
 pub first : Demand
@@ -65,6 +75,36 @@ first =
                 (c .allowed .0)
                 (c .allowed .1);
           };
+      describe-cell =
+          record {
+            any = λ κs given. tt;
+            ends = described-cell.describe_cell.Met.met;
+            says = λ c. cell-described (now (c .given .0)) (c .given .1 .0) (c .given .1 .1 .0) (c .back) (c .allowed);
+          };
+      describe-stack =
+          record {
+            any = λ κs given. tt;
+            ends = described-stack.describe_stack.Met.met;
+            says = λ c. stack-described (now (c .given .0)) (c .given .1 .0) (c .back) (c .allowed);
+          };
+      exported-describe-cell =
+          record {
+            any = λ κs given. tt;
+            ends = descriptions.solkverva_describe_cell.Met.met;
+            says =
+                λ c.
+                exported-cell-described (now (c .given .0)) (settingsFrom (now (c .given .1 .0))) (c .given .1 .1 .0)
+                (c .back) (now (c .given .1 .1 .1 .0)) (c .left .1 .1 .1 .0) (c .allowed .0) (c .allowed .1);
+          };
+      exported-describe-stack =
+          record {
+            any = λ κs given. tt;
+            ends = descriptions.solkverva_describe_stack.Met.met;
+            says =
+                λ c.
+                exported-stack-described (now (c .given .0)) (settingsFrom (now (c .given .1 .0))) (c .back)
+                (now (c .given .1 .1 .0)) (c .left .1 .1 .0) (c .allowed .0) (c .allowed .1);
+          };
       walk =
           record {
             any = λ κs given. tt;
@@ -113,5 +153,97 @@ first =
                 λ c.
                 exported-write-answered (now (c .given .0)) (now (c .given .1 .0)) (c .left .1 .0)
                 (valueFrom (now (c .given .0))) (c .back) (c .allowed .0) (c .allowed .1);
+          };
+      ask =
+          record {
+            any = λ κs given. tt;
+            ends = question.ask.Met.met;
+            says =
+                λ c.
+                ask-answered (c .given .1 .0) (c .given .1 .1 .0) (heardIn (now (c .given .1 .1 .1 .0)))
+                (now (c .given .0)) (c .back) (c .left .0) (c .allowed .0) (c .allowed .1);
+          };
+      go-on =
+          record {
+            any = λ κs given. tt;
+            ends = question.go_on.Met.met;
+            says =
+                λ c.
+                go-on-answered (c .given .1 .0) (c .given .1 .1 .0) (heardIn (now (c .given .1 .1 .1 .1 .0)))
+                (now (c .given .0)) (c .given .1 .1 .1 .0) (c .back) (c .left .0) (c .allowed);
+          };
+      fill =
+          record {
+            any = λ κs given. tt;
+            ends = table.fill.Met.met;
+            says =
+                λ c.
+                fill-answered (c .given .1 .1 .1 .0) (heardIn (now (c .given .1 .1 .1 .1 .1 .0))) (now (c .given .0))
+                (now (c .given .1 .0)) (now (c .given .1 .1 .0)) (c .left .0) (c .left .1 .0) (c .left .1 .1 .0)
+                (c .given .1 .1 .1 .1 .0) (c .back) (c .allowed .0) (c .allowed .1);
+          };
+      entry-at =
+          record {
+            any = λ κs given. tt;
+            ends = table.entry_at.Met.met;
+            says =
+                λ c.
+                entry-answered (now (c .given .0)) (now (c .given .1 .0)) (c .given .1 .1 .0) (c .back) (c .allowed);
+          };
+      exported-label-cell =
+          record {
+            any = λ κs given. tt;
+            ends = calls.solkverva_label_cell.Met.met;
+            says =
+                λ c.
+                exported-cell-labelled (now (c .given .0)) (settingsFrom (now (c .given .1 .0))) (c .given .1 .1 .0)
+                (c .back) (now (c .given .1 .1 .1 .0)) (c .left .1 .1 .1 .0) (c .allowed .0) (c .allowed .1);
+          };
+      exported-label-area =
+          record {
+            any = λ κs given. tt;
+            ends = calls.solkverva_label_area.Met.met;
+            says =
+                λ c.
+                exported-area-labelled (now (c .given .0)) (settingsFrom (now (c .given .1 .0))) (c .back)
+                (now (c .given .1 .1 .0)) (now (c .given .1 .1 .1 .0)) (now (c .given .1 .1 .1 .1 .0))
+                (c .left .1 .1 .0) (c .left .1 .1 .1 .0) (c .left .1 .1 .1 .1 .0)
+                (c .allowed .0) (c .allowed .1 .0) (c .allowed .1 .1 .0) (c .allowed .1 .1 .1);
+          };
+      exported-who =
+          record {
+            any = λ κs given. tt;
+            ends = origins.solkverva_who.Met.met;
+            says =
+                λ c.
+                exported-who-answered (settingsFrom (now (c .given .1 .0))) (c .given .1 .1 .0)
+                (heardIn (now (c .given .1 .1 .1 .0))) (now (c .given .0)) (c .left .0) (c .back)
+                (now (c .given .1 .1 .1 .1 .0)) (now (c .given .1 .1 .1 .1 .1 .0))
+                (c .left .1 .1 .1 .1 .0) (c .left .1 .1 .1 .1 .1 .0)
+                (c .allowed .0) (c .allowed .1 .0) (c .allowed .1 .1 .0) (c .allowed .1 .1 .1);
+          };
+      exported-who-fill =
+          record {
+            any = λ κs given. tt;
+            ends = origins.solkverva_who_fill.Met.met;
+            says =
+                λ c.
+                exported-fill-answered (settingsFrom (now (c .given .1 .1 .1 .0)))
+                (heardIn (now (c .given .1 .1 .1 .1 .1 .1 .0)))
+                (lentTablesOf (now (c .given .0)) (now (c .given .1 .0)) (now (c .given .1 .1 .0))
+                (now (c .given .1 .1 .1 .1 .0))
+                (now (c .given .1 .1 .1 .1 .1 .0)))
+                _ (c .back) (c .allowed .0) (c .allowed .1);
+          };
+      exported-who-entry =
+          record {
+            any = λ κs given. tt;
+            ends = origins.solkverva_who_entry.Met.met;
+            says =
+                λ c.
+                exported-entry-answered (now (c .given .0)) (now (c .given .1 .0)) (c .given .1 .1 .0) (c .back)
+                (now (c .given .1 .1 .1 .0)) (now (c .given .1 .1 .1 .1 .0)) (c .left .1 .1 .1 .0)
+                (c .left .1 .1 .1 .1 .0)
+                (c .allowed .0) (c .allowed .1 .0) (c .allowed .1 .1);
           };
     }

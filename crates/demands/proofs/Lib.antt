@@ -1,4 +1,6 @@
 pub mod Answered
+pub mod Asked
+pub mod Described
 pub mod Sent
 pub mod Worked
 pub mod Back

@@ -1,18 +1,18 @@
 -- Demand 1: "Any RAM, settings and message record may be given. Each entry point ends with an answer or a numbered
 -- refusal in the stated order. A refusal returns its number with everything else zero, save a cell number the area
 -- check names, and changes no word of RAM, reply or remembered state."
--- To believe: the tests of each entry point (`testsFor`, `areaTests`, `recordTests`), `NoneHolds` and `First` of a
--- list of tests.
+-- To believe: the tests of each entry point (`testsFor`, `areaTests`, `recordTests`, `cellTests`, `whoTests`,
+-- `entryTests`), `NoneHolds` and `First` of a list of tests.
 use Prim.Native.Nat.{ℕ, _+_, _/_, _%_, _≤_, _<_}
 use mathlib.Core.Path.{_≡_}
 use mathlib.Core.Logic.{_↔_}
 use mathlib.Core.Bool.{Bool, true, false, not, _&&_}
 use mathlib.Core.List.{List, [], _∷_}
 use lib.ListN.{length, take, drop, replicate}
-use lib.Dec.{ltb}
+use lib.Dec.{ltb, leb}
 use denote.Ref.{now}
 use Rattle.words.specs.declared.settings.Settings.{Settings}
-use Rattle.words.specs.Number.{recordLayout, unsoundCell}
+use Rattle.words.specs.Number.{recordLayout, unsoundCell, addressBeyond}
 use Rattle.words.specs.Refusal.{Test, _when_}
 use Rattle.words.proofs.Refusals.{NoneHolds, First}
 use Rattle.records.specs.declared.value.Record.{Record}
@@ -30,18 +30,31 @@ use Rattle.area.proofs.Whole.{AreaUnsound}
 use Rattle.label.specs.Label.{cellTests, cellAnswer, areaAnswer}
 use Rattle.label.proofs.one
 use Rattle.label.proofs.whole
+use Rattle.described.specs.Described.{givenTests, noCell, noStack}
+use Rattle.described.proofs.cell as described-cell
+use Rattle.described.proofs.stack as described-stack
+use Rattle.boundary.proofs.descriptions
 use Rattle.message.specs.Heard.{heardBytes}
 use Rattle.message.specs.Tests.{testsFor, recordTests}
 use Rattle.message.specs.Answer.{refusedWith}
 use Rattle.message.proofs.serve
 use Rattle.trace.proofs.walk
+use Rattle.who.specs.declared.origin.Who.{Who}
+use Rattle.who.specs.declared.origin.Who.the-variants.{Refused}
+use Rattle.who.specs.declared.question.Standing.{Standing}
+use Rattle.who.specs.Tests.{replayTests, whoTests}
+use Rattle.who.specs.Values.{valuesOf}
+use Rattle.who.proofs.question
+use Rattle.tables.proofs.table
 use Rattle.view.specs.declared.view.Taken.{Taken}
 use Rattle.view.proofs.view
 use Rattle.lent.specs.Over.{over}
 use Rattle.lent.specs.Setup.{settingsFrom}
 use Rattle.lent.specs.Values.{valueFrom}
 use Rattle.boundary.specs.Call.{stateIn}
+use Rattle.boundary.specs.Origins.{lentTablesOf}
 use Rattle.boundary.proofs.calls
+use Rattle.boundary.proofs.origins
 use Rattle.demands.specs.Entry.{Entry}
 use Rattle.demands.specs.Calls.{Message, fromBytes, fromValue, walked, Exported, exportedBytes, exportedValue}
 use Rattle.demands.specs.Walks.{Walks}
@@ -108,6 +121,26 @@ ExportedAnswered e =
     (e .before .ram ∷ e .before .reply ∷ e .before .remembered ∷ [])
     (e .after .ram ∷ e .after .reply ∷ e .after .remembered ∷ [])
 
+-- "Who put this word here" (document 02, request 10): the answer's number, and with a refusal no more. A part of a
+-- trace goes on from an answer, which it leaves as it was beside the refusal.
+abbrev pub AskAnswered : Settings → ℕ → List ℕ → Who → List ℕ → Type 0
+AskAnswered s a ram back after =
+    Answered (whoTests (length ram) s a) (valuesOf back .number) back (λ n. Refused n) ram after
+
+abbrev pub GoOnAnswered : Settings → ℕ → List ℕ → Standing → Standing → List ℕ → Type 0
+GoOnAnswered s a ram at back after =
+    Answered (whoTests (length ram) s a) (valuesOf (back .who) .number) back
+    (λ n. record { remembered = at .remembered; number = at .number; who = Refused n }) ram after
+
+-- of what tables say of an address: "12 for an address beyond the RAM."
+abbrev pub entryTests : List ℕ → ℕ → List Test
+entryTests numbers a = addressBeyond when leb (length numbers) a ∷ []
+
+-- and for a caller in C or Rust: a refusal tells record 0, and puts zeros over the part
+abbrev pub ToldAnswered : List Test → ℕ → List ℕ → List ℕ → List ℕ → List ℕ → {Lent : Type 0} → Lent → Lent → Type 0
+ToldAnswered tests number last part last′ part′ before after =
+    Answered tests number (last′ ∷ part′ ∷ []) (λ n. over last (0 ∷ []) ∷ over part (replicate 3 0) ∷ []) before after
+
 -- the record at a place of a trace, for a view
 pub record TakeAnswered (trace : List ℕ) (at : ℕ) (back : Taken) : Type 0 where
   pub some :
@@ -153,6 +186,43 @@ pub record Demand : Type 2 where
       Answered (groundTests (now (c .given .0)) (c .given .1 .0)) (c .back .number) (c .back) (λ n. areaAnswer n [] 0)
       (now (c .given .1 .1 .0))
       (c .left .1 .1 .0))
+  -- what a cell and the stack are like, also for callers in C and Rust
+  pub describe-cell :
+      Entry 1 described-cell.describe_cell.Kinds.ps described-cell.describe_cell.Kinds.r
+      described-cell.describe_cell.Reads.Pre
+      described-cell.describe_cell.Reads.Post described-cell.describe_cell.Statement.statement
+      (λ c.
+      Answered (givenTests (length (now (c .given .0))) (c .given .1 .0)) (c .back .number) (c .back) noCell
+      (now (c .given .0))
+      (now (c .given .0)))
+  pub describe-stack :
+      Entry 1 described-stack.describe_stack.Kinds.ps described-stack.describe_stack.Kinds.r
+      described-stack.describe_stack.Reads.Pre
+      described-stack.describe_stack.Reads.Post described-stack.describe_stack.Statement.statement
+      (λ c.
+      Answered (givenTests (length (now (c .given .0))) (c .given .1 .0)) (c .back .number) (c .back) noStack
+      (now (c .given .0))
+      (now (c .given .0)))
+  pub exported-describe-cell :
+      Entry 3 descriptions.solkverva_describe_cell.Kinds.ps descriptions.solkverva_describe_cell.Kinds.r
+      descriptions.solkverva_describe_cell.Reads.Pre
+      descriptions.solkverva_describe_cell.Reads.Post descriptions.solkverva_describe_cell.Statement.statement
+      (λ c.
+      Answered (givenTests (length (now (c .given .0))) (settingsFrom (now (c .given .1 .0)))) (c .back)
+      (c .left .1 .1 .1 .0)
+      (λ n. over (now (c .given .1 .1 .1 .0)) (replicate 8 0))
+      (now (c .given .0))
+      (now (c .given .0)))
+  pub exported-describe-stack :
+      Entry 3 descriptions.solkverva_describe_stack.Kinds.ps descriptions.solkverva_describe_stack.Kinds.r
+      descriptions.solkverva_describe_stack.Reads.Pre
+      descriptions.solkverva_describe_stack.Reads.Post descriptions.solkverva_describe_stack.Statement.statement
+      (λ c.
+      Answered (givenTests (length (now (c .given .0))) (settingsFrom (now (c .given .1 .0)))) (c .back)
+      (c .left .1 .1 .0)
+      (λ n. over (now (c .given .1 .1 .0)) (replicate 4 0))
+      (now (c .given .0))
+      (now (c .given .0)))
   -- each whole record of a trace is such a message
   pub walk :
       Entry 4 walk.walk.Kinds.ps walk.walk.Kinds.r walk.walk.Reads.Pre walk.walk.Reads.Post
@@ -185,10 +255,100 @@ pub record Demand : Type 2 where
       calls.solkverva_read.Reads.Post calls.solkverva_read.Statement.statement
       (λ c.
       Answered (recordTests (heardBytes (now (c .given .0)))) (c .back) (c .left .1 .0)
-      (λ n. over (now (c .given .1 .0)) (replicate 36 0)) (now (c .given .0)) (now (c .given .0)))
+      (λ n. over (now (c .given .1 .0)) (replicate 37 0)) (now (c .given .0)) (now (c .given .0)))
   pub exported-write :
       Entry 2 calls.solkverva_write.Kinds.ps calls.solkverva_write.Kinds.r calls.solkverva_write.Reads.Pre
       calls.solkverva_write.Reads.Post calls.solkverva_write.Statement.statement
       (λ c.
       Answered (writerTests (valueFrom (now (c .given .0)))) (c .back) (c .left .1 .0)
       (λ n. over (now (c .given .1 .0)) (replicate 80 0)) (now (c .given .0)) (now (c .given .0)))
+  -- "Who put this word here", for one address: of a whole trace, and of a part of one, after an answer that is no
+  -- refusal
+  pub ask :
+      Entry 2 question.ask.Kinds.ps question.ask.Kinds.r question.ask.Reads.Pre question.ask.Reads.Post
+      question.ask.Statement.statement
+      (λ c. AskAnswered (c .given .1 .0) (c .given .1 .1 .0) (now (c .given .0)) (c .back) (c .left .0))
+  pub go-on :
+      Entry 2 question.go_on.Kinds.ps question.go_on.Kinds.r question.go_on.Reads.Pre question.go_on.Reads.Post
+      question.go_on.Statement.statement
+      (λ c.
+      valuesOf (c .given .1 .1 .1 .0 .who) .number ≡ 0 →
+      GoOnAnswered (c .given .1 .0) (c .given .1 .1 .0) (now (c .given .0)) (c .given .1 .1 .1 .0) (c .back)
+      (c .left .0))
+  -- and for every address at once: a refusal leaves RAM and the tables, and what is remembered, as they were
+  pub fill :
+      Entry 4 table.fill.Kinds.ps table.fill.Kinds.r table.fill.Reads.Pre table.fill.Reads.Post
+      table.fill.Statement.statement
+      (λ c.
+      Answered (replayTests (length (now (c .given .0))) (c .given .1 .1 .1 .0)) (c .back .number) (c .back)
+      (λ n. record { number = n; at = c .given .1 .1 .1 .1 .0 })
+      (now (c .given .0) ∷ now (c .given .1 .0) ∷ now (c .given .1 .1 .0) ∷ [])
+      (c .left .0 ∷ c .left .1 .0 ∷ c .left .1 .1 .0 ∷ []))
+  pub entry-at :
+      Entry 2 table.entry_at.Kinds.ps table.entry_at.Kinds.r table.entry_at.Reads.Pre table.entry_at.Reads.Post
+      table.entry_at.Statement.statement
+      (λ c.
+      Answered (entryTests (now (c .given .0)) (c .given .1 .1 .0)) (valuesOf (c .back) .number) (c .back)
+      (λ n. Refused n)
+      (now (c .given .0))
+      (now (c .given .0)))
+  -- labels and origins for callers in C and Rust
+  pub exported-label-cell :
+      Entry 3 calls.solkverva_label_cell.Kinds.ps calls.solkverva_label_cell.Kinds.r
+      calls.solkverva_label_cell.Reads.Pre
+      calls.solkverva_label_cell.Reads.Post calls.solkverva_label_cell.Statement.statement
+      (λ c.
+      Answered (cellTests (now (c .given .0)) (settingsFrom (now (c .given .1 .0))) (c .given .1 .1 .0)) (c .back)
+      (c .left .1 .1 .1 .0)
+      (λ n. over (now (c .given .1 .1 .1 .0)) (replicate 179 0))
+      (now (c .given .0))
+      (now (c .given .0)))
+  pub exported-label-area :
+      Entry 5 calls.solkverva_label_area.Kinds.ps calls.solkverva_label_area.Kinds.r
+      calls.solkverva_label_area.Reads.Pre
+      calls.solkverva_label_area.Reads.Post calls.solkverva_label_area.Statement.statement
+      (λ c.
+      Answered (groundTests (now (c .given .0)) (settingsFrom (now (c .given .1 .0)))) (c .back)
+      (c .left .1 .1 .0 ∷ c .left .1 .1 .1 .0 ∷ [])
+      (λ n.
+      over (now (c .given .1 .1 .0)) (replicate 2 0) ∷ over (now (c .given .1 .1 .1 .0)) (replicate 90 0) ∷ [])
+      (now (c .given .1 .1 .1 .1 .0))
+      (c .left .1 .1 .1 .1 .0))
+  pub exported-who :
+      Entry 5 origins.solkverva_who.Kinds.ps origins.solkverva_who.Kinds.r origins.solkverva_who.Reads.Pre
+      origins.solkverva_who.Reads.Post origins.solkverva_who.Statement.statement
+      (λ c.
+      ToldAnswered
+      (whoTests (length (now (c .given .0))) (settingsFrom (now (c .given .1 .0))) (c .given .1 .1 .0))
+      (c .back)
+      (now (c .given .1 .1 .1 .1 .0))
+      (now (c .given .1 .1 .1 .1 .1 .0))
+      (c .left .1 .1 .1 .1 .0)
+      (c .left .1 .1 .1 .1 .1 .0)
+      (now (c .given .0))
+      (c .left .0))
+  pub exported-who-fill :
+      Entry 7 origins.solkverva_who_fill.Kinds.ps origins.solkverva_who_fill.Kinds.r
+      origins.solkverva_who_fill.Reads.Pre
+      origins.solkverva_who_fill.Reads.Post origins.solkverva_who_fill.Statement.statement
+      (λ c.
+      Answered (replayTests (length (now (c .given .0))) (settingsFrom (now (c .given .1 .1 .1 .0)))) (c .back)
+      (c .back)
+      (λ n. n)
+      (lentTablesOf (now (c .given .0)) (now (c .given .1 .0)) (now (c .given .1 .1 .0))
+      (now (c .given .1 .1 .1 .1 .0))
+      (now (c .given .1 .1 .1 .1 .1 .0)))
+      (lentTablesOf (c .left .0) (c .left .1 .0) (c .left .1 .1 .0) (c .left .1 .1 .1 .1 .0)
+      (c .left .1 .1 .1 .1 .1 .0)))
+  pub exported-who-entry :
+      Entry 4 origins.solkverva_who_entry.Kinds.ps origins.solkverva_who_entry.Kinds.r
+      origins.solkverva_who_entry.Reads.Pre
+      origins.solkverva_who_entry.Reads.Post origins.solkverva_who_entry.Statement.statement
+      (λ c.
+      ToldAnswered (entryTests (now (c .given .0)) (c .given .1 .1 .0)) (c .back)
+      (now (c .given .1 .1 .1 .0))
+      (now (c .given .1 .1 .1 .1 .0))
+      (c .left .1 .1 .1 .0)
+      (c .left .1 .1 .1 .1 .0)
+      (now (c .given .0))
+      (now (c .given .0)))

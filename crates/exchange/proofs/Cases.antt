@@ -1,4 +1,4 @@
--- The cases computed, in one statement. In the first two the exchange is allowed: descriptors change places on the stack, and in
+-- The cases computed, in one statement. In the first three the exchange is allowed: descriptors change places on the stack, and in
 -- the second the stack-rollover bit passes to the other message; all that demand 3 says holds. In each of the others one
 -- condition fails, and with it what demand 3 says: other words are sent, or a message is refused.
 use Prim.Native.Nat.{ℕ}
@@ -9,6 +9,7 @@ use Rattle.words.specs.Bits.{bitsOf}
 use Rattle.words.specs.Command.{wordCount, isModeSubaddress}
 use Rattle.words.specs.Settings.{stackSizeListed, settingsRefused, isOwn, isBroadcast, isNotOurs, programSettings}
 use Rattle.words.specs.Refusal.{firstOf}
+use Rattle.records.specs.Transfer.{transferFails, breaksTransfer}
 use Rattle.records.specs.Value.{lastsZero, keepsLayout}
 use Rattle.records.specs.Fault.{expectedWords, faultsOf, faultsFor, anyFault}
 use Rattle.memory.specs.Map.{ramRefused, stackPointerPlace, lookupTable, busyPlace, isBusyAt, illegalPlace, isIllegalAt}
@@ -90,6 +91,19 @@ expected =
           says (0x8000 ∷ 7 ∷ 0x480 ∷ 0x2C62 ∷ none) (0x8000 ∷ 8 ∷ 0x481 ∷ 0x2C82 ∷ [])
           ((0x2800 ∷ 12 ∷ 13 ∷ []) ∷ (0x2800 ∷ 11 ∷ 12 ∷ []) ∷ []) (3 ∷ 3 ∷ []) 0x2C62 0x2800;
     }
+    -- twoTransfers
+    ∷ record {
+      asks = true;
+      old =
+          order (0x8880 ∷ 7 ∷ 0x4FE ∷ 0x2864 ∷ 0x9E00 ∷ 8 ∷ 0x500 ∷ 0x2883 ∷ 8 ∷ 0x482 ∷ 1 ∷ 3 ∷ 0 ∷ []) (0 ∷ 0 ∷ [])
+          ((0x2800 ∷ []) ∷ [] ∷ []) (3 ∷ 0x13 ∷ []) 0x2883 0x2C00;
+      new =
+          order (0x9E00 ∷ 8 ∷ 0x500 ∷ 0x2883 ∷ 0x8880 ∷ 7 ∷ 0x4FE ∷ 0x2864 ∷ 8 ∷ 0x482 ∷ 1 ∷ 3 ∷ 0 ∷ []) (0 ∷ 0 ∷ [])
+          ([] ∷ (0x2800 ∷ []) ∷ []) (0x13 ∷ 3 ∷ []) 0x2864 0x2800;
+      said =
+          says (0x9E00 ∷ 8 ∷ 0x500 ∷ 0x2883 ∷ 0x8880 ∷ 7 ∷ 0x4FE ∷ 0x2864 ∷ []) none
+          ([] ∷ (0x2800 ∷ []) ∷ []) (0x13 ∷ 3 ∷ []) 0x2864 0x2800;
+    }
     -- oneCell: the words sent are not those that the messages sent before
     ∷ record {
       asks = false;
@@ -161,5 +175,5 @@ expected =
     ∷ []
 
 pub computed : map seen cases ≡ expected
-unfolding bitsOf wordCount isModeSubaddress stackSizeListed settingsRefused isOwn isBroadcast isNotOurs firstOf lastsZero keepsLayout expectedWords faultsOf faultsFor anyFault ramRefused stackPointerPlace lookupTable busyPlace isBusyAt illegalPlace isIllegalAt cellNumber kindOf applyWrites writesTo runFrom aligned placeOf rollsOver meets meetsFixed controlPart pickScheme schemeOf cellAt windowOf doubleFits soundCell stackPointer stackWindow stackSound cellFor isIllegal isBusy targetOf withheld wordsStored wordsSent actWith actOf mayMove stride moves motionWith motionOf blockStatus statusBits statusWord signalsOf deedWith deedOf entryOf interruptWord planWith planOf pointerWrites descriptorOf entryWrites deedWrites stackWrites writesOf replyWrites replyWords cellUnsound refusalFor refusedWith acceptedWith answerFor rememberedWith carriedOut stateFor answerOf step kindNumbered programSettings isRead cellNumbered isUnsound orElse lowest lowestUnsound areaRefusal checkArea run effectOf effects swapAt exchangeAll wellFormed allWellFormed mayExchange allowedAt allowedAll withoutWrap withoutStackRollover rememberedLast entriesOn lastOf stackWord keptAfter stackAfter rememberedAfter startsWell takesWell asked plainRam startOf orderOf saidOf seen
+unfolding bitsOf wordCount isModeSubaddress stackSizeListed settingsRefused isOwn isBroadcast isNotOurs firstOf transferFails breaksTransfer lastsZero keepsLayout expectedWords faultsOf faultsFor anyFault ramRefused stackPointerPlace lookupTable busyPlace isBusyAt illegalPlace isIllegalAt cellNumber kindOf applyWrites writesTo runFrom aligned placeOf rollsOver meets meetsFixed controlPart pickScheme schemeOf cellAt windowOf doubleFits soundCell stackPointer stackWindow stackSound cellFor isIllegal isBusy targetOf withheld wordsStored wordsSent actWith actOf mayMove stride moves motionWith motionOf blockStatus statusBits statusWord signalsOf deedWith deedOf entryOf interruptWord planWith planOf pointerWrites descriptorOf entryWrites deedWrites stackWrites writesOf replyWrites replyWords cellUnsound refusalFor refusedWith acceptedWith answerFor rememberedWith carriedOut stateFor answerOf step kindNumbered programSettings isRead cellNumbered isUnsound orElse lowest lowestUnsound areaRefusal checkArea run effectOf effects swapAt exchangeAll wellFormed allWellFormed mayExchange allowedAt allowedAll withoutWrap withoutStackRollover rememberedLast entriesOn lastOf stackWord keptAfter stackAfter rememberedAfter startsWell takesWell asked plainRam startOf orderOf saidOf seen
 computed = refl

@@ -1,4 +1,4 @@
--- Lists of messages with an exchange, to be computed: two that demand 3 speaks of, and others of each of
+-- Lists of messages with an exchange, to be computed: three that demand 3 speaks of, and others of each of
 -- which one condition fails.
 use Prim.Native.Nat.{ℕ, _-_}
 use mathlib.Core.Bool.{Bool, true}
@@ -25,11 +25,22 @@ bench = programSettings
 unfoldable pub plainRam : List ℕ
 plainRam = replicate 0x140 0 ++ (replicate 64 0x400 ++ replicate (4096 - 0x180) 0)
 
--- a message without faults flagged: command, time tag, words seen
-abbrev pub heard : ℕ → ℕ → List ℕ → Heard
-heard command tag words =
+-- a message with flags and a transmit command: command, time tag, words seen
+abbrev pub marked : ℕ → ℕ → ℕ → ℕ → List ℕ → Heard
+marked flags from command tag words =
     heardValue
-    (record { command = command; tag = tag; flags = 0; count = length words; words = words ++ replicate (32 - length words) 0 })
+    (record {
+      command = command;
+      «transmit_command» = from;
+      tag = tag;
+      flags = flags;
+      count = length words;
+      words = words ++ replicate (32 - length words) 0;
+    })
+
+-- a message without flags
+abbrev pub heard : ℕ → ℕ → List ℕ → Heard
+heard = marked 0 0
 
 pub record Case : Type 0 where
   pub ram : List Write
@@ -122,6 +133,17 @@ twoTransmits =
       look = 0xFC ∷ 0xFD ∷ 0xFE ∷ 0xFF ∷ 0 ∷ 1 ∷ 2 ∷ 3 ∷ 0x100 ∷ 0x163 ∷ [];
     }
 
+-- "Demand 3 reads over the widened records." Two RT-to-RT transfers into windows that don't meet; the second's transmitter gave no status
+abbrev pub twoTransfers : Case
+twoTransfers =
+    record {
+      ram = put 0x143 0x4FE ∷ put 0x1A3 0x20 ∷ put 0x144 0x500 ∷ [];
+      room = 33;
+      messages = marked 8 0x1443 0x2864 7 (1 ∷ 2 ∷ 3 ∷ 4 ∷ []) ∷ marked 24 0x1443 0x2883 8 [] ∷ [];
+      places = 0 ∷ [];
+      look = 0 ∷ 1 ∷ 2 ∷ 3 ∷ 4 ∷ 5 ∷ 6 ∷ 7 ∷ 0x100 ∷ 0x143 ∷ 0x4FE ∷ 0x480 ∷ 0x500 ∷ [];
+    }
+
 -- ---- not allowed, each for one condition
 
 -- "different cells": two transmits from one circular cell; each sends what the pointer has come to
@@ -209,7 +231,7 @@ broken =
       room = 33;
       messages =
           heard 0x2861 7 (5 ∷ [])
-          ∷ heardValue (record { command = 0x2881; tag = 8; flags = 0; count = 34; words = replicate 32 6 })
+          ∷ heardValue (record { command = 0x2881; «transmit_command» = 0; tag = 8; flags = 0; count = 34; words = replicate 32 6 })
           ∷ [];
       places = 0 ∷ [];
       look = 0x100 ∷ [];
@@ -217,4 +239,4 @@ broken =
 
 abbrev pub cases : List Case
 cases =
-    twoReceives ∷ twoTransmits ∷ oneCell ∷ meeting ∷ later ∷ unsound ∷ narrow ∷ modeCommand ∷ elsewhere ∷ broken ∷ []
+    twoReceives ∷ twoTransmits ∷ twoTransfers ∷ oneCell ∷ meeting ∷ later ∷ unsound ∷ narrow ∷ modeCommand ∷ elsewhere ∷ broken ∷ []

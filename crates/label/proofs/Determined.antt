@@ -17,5 +17,11 @@ label-area-settled κs a x y v w p q =
 pub kind-numbered-settled : Settled 0 cell.kind_numbered.Kinds.ps cell.kind_numbered.Kinds.r cell.kind_numbered.Reads.Post
 kind-numbered-settled κs a x y v w p q = (determined p q, refl)
 
+pub is-read-settled : Settled 0 cell.is_read.Kinds.ps cell.is_read.Kinds.r cell.is_read.Reads.Post
+is-read-settled κs a x y v w p q = (determined p q, refl)
+
+pub cell-numbered-settled : Settled 1 cell.cell_numbered.Kinds.ps cell.cell_numbered.Kinds.r cell.cell_numbered.Reads.Post
+cell-numbered-settled κs a x y v w p q = (determined p q, refl)
+
 pub sharer-numbered-settled : Settled 0 one.sharer_numbered.Kinds.ps one.sharer_numbered.Kinds.r one.sharer_numbered.Reads.Post
 sharer-numbered-settled κs a x y v w p q = (determined p q, refl)

@@ -35,7 +35,7 @@ pub(crate) fn able_to_write(kind: Kind) -> bool
     }
 }
 
-pub(crate) fn is_read(s: Settings, number: u16) -> bool
+pub fn is_read(s: Settings, number: u16) -> bool
     ensures { λ r. ⌜ r ≡ isRead s number ⌝ }
 {
     let sub = number % 32;
@@ -51,7 +51,7 @@ pub(crate) fn read_end(s: Settings) -> u16
     if s.separate_broadcast { 96 } else { 64 }
 }
 
-pub(crate) fn cell_numbered(ram: &[u16], s: Settings, number: u16) -> Cell
+pub fn cell_numbered(ram: &[u16], s: Settings, number: u16) -> Cell
     ensures { λ r. ⌜ r ≡ cellNumbered (now (ram .entry)) s number ⌝ }
 {
     let area = s.area;

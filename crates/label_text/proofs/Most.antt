@@ -1,5 +1,5 @@
 -- How long the label's text is: too short to reach the last place that can be counted.
-use Prim.Native.Nat.{ℕ, _+_, _*_, _%_, _^_, _<_, _≤_}
+use Prim.Native.Nat.{ℕ, _*_, _%_, _^_, _<_, _≤_}
 use native.Mathlib.Omega.{arith}
 use mathlib.Core.Path.{_≡_}
 use mathlib.Core.Logic.{⊎-elim}
@@ -15,7 +15,7 @@ use Rattle.memory.specs.declared.kind.Kind.the-variants.{Receive, Transmit, Bro
 use Rattle.memory.specs.Kind.{kindNumbered}
 use Rattle.area.specs.Area.{groundRefusal}
 use Rattle.label.specs.declared.one.Sharer.{Sharer}
-use Rattle.label.specs.Label.{meetingCells, meetingPairs, unsoundCells, sharerNumbered, cellRefusal}
+use Rattle.label.specs.Label.{meetingCells, meetingPairs, unsoundCells, cellRefusal}
 use Rattle.label.proofs.Most.{unsound-most, meeting-most, meeting-pairs-most}
 use Rattle.text.proofs.Numerals.{decimal-most}
 use Rattle.text.proofs.Lines.{named-most}
@@ -49,7 +49,10 @@ also-most number = simp length-append (omega (arith, cell-most number))
 
 -- lines of which each has at most m bytes
 lines-most :
-    {A : Type 0} (line : A → List ℕ) (m : ℕ) → ((x : A) → length (line x) ≤ m) → (xs : List A) → length (flatMap line xs) ≤ m * length xs
+    {A : Type 0} (line : A → List ℕ) (m : ℕ) →
+    ((x : A) → length (line x) ≤ m) →
+    (xs : List A) →
+    length (flatMap line xs) ≤ m * length xs
 unfolding flatMap
 lines-most line m h [] = omega arith
 lines-most line m h (x ∷ xs) = rw length-append (omega (arith, h x, lines-most line m h xs))

@@ -9,7 +9,12 @@ use Rattle.text.specs.Text.{Put, newline}
 use Rattle.text.proofs.Runs.{put-none, put-then}
 use Rattle.label_text.specs.Wording.{cellText, unsoundName, alsoText, unsoundLine}
 
-pub no-cells : (l cells : List ℕ) (at : ℕ) → length l < 2 ^ 64 → at < 2 ^ 64 → length cells ≡ 0 → Put l at (unsoundLine cells) l at
+pub no-cells :
+    (l cells : List ℕ) (at : ℕ) →
+    length l < 2 ^ 64 →
+    at < 2 ^ 64 →
+    length cells ≡ 0 →
+    Put l at (unsoundLine cells) l at
 unfolding unsoundLine
 no-cells l [] at h k e = put-none h k
 no-cells l (x ∷ xs) at h k e = absurd (omega arith)

@@ -14,9 +14,9 @@ use Rattle.layout.specs.declared.writer.Written.{Written}
 use Rattle.words.specs.Fill.{fillFrom, fill}
 use Rattle.records.specs.Value.{zeroWords, keepsLayout}
 use Rattle.words.proofs.Fill.{length-fill, fill-at}
-use Rattle.layout.specs.Layout.{wordAt, areZero, wordsIn, valueIn, gapsZero, breaksLayout, readRecord, notRead}
+use Rattle.layout.specs.Layout.{wordAt, wordsIn, valueIn, gapZero, breaksLayout, readRecord, notRead}
 use Rattle.layout.specs.Writing.{zeroBytes, headerFields, wordFields, fieldsOf, bytesOf, writeRecord}
-use Rattle.words.proofs.Basics.{yes-or-no, lt-or-ge, eq-or-ne, and-left, and-right}
+use Rattle.words.proofs.Basics.{yes-or-no, lt-or-ge, eq-or-ne}
 use Rattle.layout.proofs.Numbers.{Bytes, zeros-number, number-zeros}
 use Rattle.layout.proofs.Fields.{endToEnd, numbersIn, valuesIn, heldIn, length-fields, bytes-fields, fields-put, fields-anew, fields-again}
 use Rattle.layout.proofs.Places.{layout-kept}
@@ -25,6 +25,7 @@ use Rattle.layout.proofs.Cases.{read-length, read-layout, read-good, wr
 -- what the type `Record` says of a value
 pub record Typed (v : Record) : Type 0 where
   pub command : v .command < 65536
+  pub second : v .«transmit_command» < 65536
   pub tag : v .tag < 65536
   pub flags : v .flags < 256
   pub count : v .count < 256
@@ -49,7 +50,7 @@ numbers-written v = fields-put (fieldsOf v) zeroBytes 0 80 (laid v) (omega arith
 -- the value whose numbers stand in the fields, in their order
 abbrev fromNumbers : List ℕ → Record
 fromNumbers l =
-    record { command = getD l 0 0; tag = getD l 2 0; flags = getD l 3 0; count = getD l 4 0; words = drop 6 l }
+    record { command = getD l 0 0; «transmit_command» = getD l 1 0; tag = getD l 2 0; flags = getD l 3 0; count = getD l 4 0; words = drop 6 l }
 
 value-numbers : (v : Record) (s : List ℕ) → valueIn s ≡ fromNumbers (numbersIn (fieldsOf v) s)
 unfolding valueIn wordsIn fillFrom numbersIn fieldsOf headerFields wordFields
@@ -66,26 +67,24 @@ value-held : (v : Record) → Typed v → fromNumbers (heldIn (fieldsOf v)) ≡ 
 unfolding fillFrom heldIn fieldsOf headerFields wordFields
 value-held v t =
     let e0 = mod-eq-of-lt (t .command) in
-    let e1 = mod-eq-of-lt (t .tag) in
-    let e2 = mod-eq-of-lt (t .flags) in
-    let e3 = mod-eq-of-lt (t .count) in
-    let e4 = words-held v t in
-    λ i. record { command = e0 i; tag = e1 i; flags = e2 i; count = e3 i; words = e4 i }
+    let e1 = mod-eq-of-lt (t .second) in
+    let e2 = mod-eq-of-lt (t .tag) in
+    let e3 = mod-eq-of-lt (t .flags) in
+    let e4 = mod-eq-of-lt (t .count) in
+    let e5 = words-held v t in
+    λ i. record { command = e0 i; «transmit_command» = e1 i; tag = e2 i; flags = e3 i; count = e4 i; words = e5 i }
 
 pub value-back : (v : Record) → Typed v → valueIn (bytesOf v) ≡ v
 value-back v t = value-numbers v (bytesOf v) ∙ ap fromNumbers (numbers-written v) ∙ value-held v t
 
--- bytes 2-3 and 8-15 of what is written are zero
-gaps-zero : (v : Record) → gapsZero (bytesOf v) ≡ true
+-- bytes 8-15 of what is written are zero
+gap-zero : (v : Record) → gapZero (bytesOf v) ≡ true
 unfolding numbersIn heldIn fieldsOf headerFields wordFields
-gaps-zero v =
-    let gap = number-zeros (bytesOf v) 2 2 (ap (λ (l : List ℕ). getD l 1 0) (numbers-written v)) in
-    let gaps = number-zeros (bytesOf v) 8 8 (ap (λ (l : List ℕ). getD l 5 0) (numbers-written v)) in
-    rw (gap, gaps)
+gap-zero v = number-zeros (bytesOf v) 8 8 (ap (λ (l : List ℕ). getD l 5 0) (numbers-written v))
 
 written-keeps : (v : Record) → Typed v → keepsLayout v ≡ true → breaksLayout (bytesOf v) ≡ false
 unfolding breaksLayout
-written-keeps v t k = simp (gaps-zero v, value-back v t, k)
+written-keeps v t k = simp (gap-zero v, value-back v t, k)
 
 -- reading what the writer wrote gives the value
 pub read-after-write :
@@ -94,14 +93,11 @@ read-after-write v t k = rw (read-good (bytesOf v) (length-bytes v) (written-kee
 
 -- ---- what was read is written
 
-numbers-read : (s : List ℕ) → gapsZero s ≡ true → numbersIn (fieldsOf (valueIn s)) s ≡ valuesIn (fieldsOf (valueIn s))
+numbers-read : (s : List ℕ) → gapZero s ≡ true → numbersIn (fieldsOf (valueIn s)) s ≡ valuesIn (fieldsOf (valueIn s))
 unfolding valueIn wordsIn fillFrom numbersIn valuesIn fieldsOf headerFields wordFields
-numbers-read s e =
-    let gap = zeros-number s 2 2 (and-left (areZero s 2 2) (areZero s 8 8) e) in
-    let gaps = zeros-number s 8 8 (and-right (areZero s 2 2) (areZero s 8 8) e) in
-    rw (gap, gaps)
+numbers-read s e = rw (zeros-number s 8 8 e)
 
-pub bytes-back : (s : List ℕ) → length s ≡ 80 → Bytes s → gapsZero s ≡ true → bytesOf (valueIn s) ≡ s
+pub bytes-back : (s : List ℕ) → length s ≡ 80 → Bytes s → gapZero s ≡ true → bytesOf (valueIn s) ≡ s
 unfolding bytesOf
 bytes-back s e b g =
     let v = valueIn s in
@@ -113,7 +109,7 @@ pub write-after-read :
     (s : List ℕ) → length s ≡ 80 → Bytes s → breaksLayout s ≡ false →
     writeRecord (valueIn s) ≡ record { number = 0; bytes = s }
 write-after-read s e b k =
-    let g = layout-kept s k in rw (write-good (valueIn s) (g .value), bytes-back s e b (g .gaps))
+    let g = layout-kept s k in rw (write-good (valueIn s) (g .value), bytes-back s e b (g .gap))
 
 -- ---- the writer takes exactly what the reader can give
 
@@ -162,6 +158,7 @@ unfolding valueIn
 typed-value s b =
     record {
       command = omega (arith, b 0, b 1);
+      second = omega (arith, b 2, b 3);
       tag = omega (arith, b 4, b 5);
       flags = b 6;
       count = b 7;

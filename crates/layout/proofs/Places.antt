@@ -3,14 +3,16 @@ use Prim.Native.Nat.{ℕ, zero, suc, _+_, _<_, _≤_}
 use native.Mathlib.Omega.{arith}
 use mathlib.Core.Path.{_≡_, refl}
 use mathlib.Core.Logic.{_↔_, ⊎-elim}
-use mathlib.Core.Bool.{true, false, _&&_, or-true}
+use mathlib.Core.Bool.{true, false, not, _&&_, or-true}
 use mathlib.Core.List.{List}
 use lib.ListN.{getD}
 use lib.Dec.{ltb, leb}
-use borrow.Author.Tests.{eq-eqb, eqb-true, lt-ltb, le-ltb, le-leb, leb-true, not-false}
+use borrow.Author.Tests.{eq-eqb, eqb-true, lt-ltb, le-ltb, le-leb, leb-true, not-true, not-false}
 use Rattle.records.specs.declared.value.Record.{Record}
+use Rattle.records.specs.Transfer.{breaksTransfer}
 use Rattle.records.specs.Value.{lastsZero, keepsLayout}
-use Rattle.layout.specs.Layout.{areZero, valueIn, gapsZero, breaksLayout}
+use Rattle.records.proofs.Rules.{KeepsTransfer, kept-of, unbroken-of}
+use Rattle.layout.specs.Layout.{areZero, valueIn, gapZero, breaksLayout}
 use Rattle.words.proofs.Basics.{lt-or-ge, eq-or-ne, and-left, and-right}
 
 pub are-zero-at : (s : List ℕ) (from n k : ℕ) → areZero s from n ≡ true → k < n → getD s (from + k) 0 ≡ 0
@@ -54,28 +56,32 @@ lasts-zero-of words count (suc n) h =
 
 -- the rules of a record value, one by one
 pub record Lawful (v : Record) : Type 0 where
-  pub flags : v .flags ≤ 7
+  pub flags : v .flags ≤ 127
   pub count : v .count ≤ 33
+  pub transfer : KeepsTransfer v
   pub rest : (k : ℕ) → v .count ≤ k → k < 32 → getD (v .words) k 0 ≡ 0
 
 lawful-of : (v : Record) → keepsLayout v ≡ true → Lawful v
 unfolding keepsLayout
 lawful-of v e =
-    let limits = and-left (leb (v .flags) 7 && leb (v .count) 33) (lastsZero (v .words) (v .count) 32) e in
+    let limits = leb (v .flags) 127 && leb (v .count) 33 in
+    let rules = limits && not (breaksTransfer v) in
+    let head = and-left rules (lastsZero (v .words) (v .count) 32) e in
+    let low = and-left limits (not (breaksTransfer v)) head in
     record {
-      flags = leb-true (v .flags) 7 (and-left (leb (v .flags) 7) (leb (v .count) 33) limits);
-      count = leb-true (v .count) 33 (and-right (leb (v .flags) 7) (leb (v .count) 33) limits);
+      flags = leb-true (v .flags) 127 (and-left (leb (v .flags) 127) (leb (v .count) 33) low);
+      count = leb-true (v .count) 33 (and-right (leb (v .flags) 127) (leb (v .count) 33) low);
+      transfer = kept-of v (not-true (breaksTransfer v) (and-right limits (not (breaksTransfer v)) head));
       rest =
           λ k a l.
-          lasts-zero-at (v .words) (v .count) 32 k
-          (and-right (leb (v .flags) 7 && leb (v .count) 33) (lastsZero (v .words) (v .count) 32) e)
-          l a;
+          lasts-zero-at (v .words) (v .count) 32 k (and-right rules (lastsZero (v .words) (v .count) 32) e) l a;
     }
 
 keeps-of : (v : Record) → Lawful v → keepsLayout v ≡ true
 unfolding keepsLayout
 keeps-of v h =
-    rw (le-leb (v .flags) 7 (h .flags), le-leb (v .count) 33 (h .count)) (lasts-zero-of (v .words) (v .count) 32 (h .rest))
+    rw (le-leb (v .flags) 127 (h .flags), le-leb (v .count) 33 (h .count), unbroken-of v (h .transfer))
+    (lasts-zero-of (v .words) (v .count) 32 (h .rest))
 
 -- a value keeps the layout exactly when it keeps each rule
 pub keeps-layout : (v : Record) → (keepsLayout v ≡ true) ↔ Lawful v
@@ -83,38 +89,36 @@ keeps-layout v = (lawful-of v, keeps-of v)
 
 -- the parts of a layout that is kept
 pub record Kept (s : List ℕ) : Type 0 where
-  pub gaps : gapsZero s ≡ true
+  pub gap : gapZero s ≡ true
   pub value : keepsLayout (valueIn s) ≡ true
 
 pub layout-kept : (s : List ℕ) → breaksLayout s ≡ false → Kept s
 unfolding breaksLayout
 layout-kept s b =
-    let all = not-false (gapsZero s && keepsLayout (valueIn s)) b in
+    let all = not-false (gapZero s && keepsLayout (valueIn s)) b in
     record {
-      gaps = and-left (gapsZero s) (keepsLayout (valueIn s)) all;
-      value = and-right (gapsZero s) (keepsLayout (valueIn s)) all;
+      gap = and-left (gapZero s) (keepsLayout (valueIn s)) all;
+      value = and-right (gapZero s) (keepsLayout (valueIn s)) all;
     }
 
 -- the layout, rule by rule
 pub record LaidOut (s : List ℕ) : Type 0 where
-  pub gap : (k : ℕ) → k < 2 → getD s (2 + k) 0 ≡ 0
-  pub gaps : (k : ℕ) → k < 8 → getD s (8 + k) 0 ≡ 0
+  pub gap : (k : ℕ) → k < 8 → getD s (8 + k) 0 ≡ 0
   pub value : Lawful (valueIn s)
 
 laid-out-of : (s : List ℕ) → breaksLayout s ≡ false → LaidOut s
 laid-out-of s b =
     let g = layout-kept s b in
     record {
-      gap = λ k l. are-zero-at s 2 2 k (and-left (areZero s 2 2) (areZero s 8 8) (g .gaps)) l;
-      gaps = λ k l. are-zero-at s 8 8 k (and-right (areZero s 2 2) (areZero s 8 8) (g .gaps)) l;
+      gap = λ k l. are-zero-at s 8 8 k (g .gap) l;
       value = lawful-of (valueIn s) (g .value);
     }
 
-unbroken-of : (s : List ℕ) → LaidOut s → breaksLayout s ≡ false
+laid-of : (s : List ℕ) → LaidOut s → breaksLayout s ≡ false
 unfolding breaksLayout
-unbroken-of s h =
-    rw (are-zero-of s 2 2 (h .gap), are-zero-of s 8 8 (h .gaps), keeps-of (valueIn s) (h .value))
+laid-of s h =
+    rw (are-zero-of s 8 8 (h .gap), keeps-of (valueIn s) (h .value))
 
 -- 80 bytes keep the layout exactly when they keep each rule
 pub laid-out : (s : List ℕ) → (breaksLayout s ≡ false) ↔ LaidOut s
-laid-out s = (laid-out-of s, unbroken-of s)
+laid-out s = (laid-out-of s, laid-of s)

@@ -25,18 +25,25 @@ areZero s from (suc n) = areZero s from n && eqb (getD s (from + n) 0) 0
 unfoldable pub wordsIn : List ℕ → List ℕ
 wordsIn s = fill (λ k. wordAt s (16 + 2 * k)) zeroWords 32
 
--- "Bytes 0-1 command; .. 4-5 time tag; 6 flags ..; 7 count; .. 16-79 thirty-two words."
+-- "Bytes 0-1 command; .. 4-5 time tag; 6 flags ..; 7 count; .. 16-79 thirty-two words." "bytes 2-3 hold the transmit command"
 unfoldable pub valueIn : List ℕ → Record
 valueIn s =
-    record { command = wordAt s 0; tag = wordAt s 4; flags = getD s 6 0; count = getD s 7 0; words = wordsIn s }
+    record {
+      command = wordAt s 0;
+      «transmit_command» = wordAt s 2;
+      tag = wordAt s 4;
+      flags = getD s 6 0;
+      count = getD s 7 0;
+      words = wordsIn s;
+    }
 
--- "2-3 zero; .. 8-15 zero"
-abbrev pub gapsZero : List ℕ → Bool
-gapsZero s = areZero s 2 2 && areZero s 8 8
+-- "8-15 zero"
+abbrev pub gapZero : List ℕ → Bool
+gapZero s = areZero s 8 8
 
 -- a gap that is not zero, or a value that breaks its rules
 unfoldable pub breaksLayout : List ℕ → Bool
-breaksLayout s = not (gapsZero s && keepsLayout (valueIn s))
+breaksLayout s = not (gapZero s && keepsLayout (valueIn s))
 
 -- "record is not 80 bytes"
 abbrev pub wrongLength : List ℕ → Bool

@@ -15,11 +15,11 @@ use Rattle.layout.specs.Fields.{Field, putFields}
 abbrev pub zeroBytes : List ℕ
 zeroBytes = replicate 80 0
 
--- "Bytes 0-1 command; 2-3 zero; 4-5 time tag; 6 flags ..; 7 count; 8-15 zero"
+-- "Bytes 0-1 command; .. 4-5 time tag; 6 flags ..; 7 count; 8-15 zero"; "bytes 2-3 hold the transmit command"
 unfoldable pub headerFields : Record → List Field
 headerFields v =
     record { place = 0; width = 2; value = v .command }
-    ∷ record { place = 2; width = 2; value = 0 }
+    ∷ record { place = 2; width = 2; value = v .«transmit_command» }
     ∷ record { place = 4; width = 2; value = v .tag }
     ∷ record { place = 6; width = 1; value = v .flags }
     ∷ record { place = 7; width = 1; value = v .count }

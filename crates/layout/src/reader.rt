@@ -2,7 +2,7 @@
 ghost use mathlib.Core.Path.{_≡_};
 ghost use Prim.Native.Nat.{_+_, _*_, _/_, _%_, _≤_};
 ghost use lib.ListN.{length, getD};
-ghost use Rattle.layout.specs.Layout.{wordAt, areZero, wordsIn, valueIn, gapsZero, breaksLayout, readRecord, notRead};
+ghost use Rattle.layout.specs.Layout.{wordAt, areZero, wordsIn, valueIn, breaksLayout, readRecord, notRead};
 ghost use Rattle.layout.specs.Swapped.{swapped};
 ghost use Rattle.words.specs.Fill.{fill};
 ghost use Rattle.records.specs.Value.{zeroWords};
@@ -89,6 +89,7 @@ fn value_in(s: &[u8]) -> Record
     let words = words_in(s);
     Record {
         command: word_at(s, 0),
+        transmit_command: word_at(s, 2),
         tag: word_at(s, 4),
         flags: s[6],
         count: s[7],
@@ -96,18 +97,11 @@ fn value_in(s: &[u8]) -> Record
     }
 }
 
-fn gaps_zero(s: &[u8]) -> bool
-    requires { ⌜ length (now s) ≡ 80 ⌝ }
-    ensures { λ r. ⌜ r ≡ gapsZero (now (s .entry)) ⌝ }
-{
-    both(are_zero(s, 2, 2), are_zero(s, 8, 8))
-}
-
 fn breaks_layout(s: &[u8], v: Record) -> bool
     requires { ⌜ (length (now s) ≡ 80) × (v ≡ valueIn (now s)) ⌝ }
     ensures { λ r. ⌜ r ≡ breaksLayout (now (s .entry)) ⌝ }
 {
-    no(both(gaps_zero(s), keeps_layout(v)))
+    no(both(are_zero(s, 8, 8), keeps_layout(v)))
 }
 
 fn not_read(number: u16) -> Reading

@@ -19,6 +19,8 @@ fn header_of(v: Record) -> [u8; 80]
     let mut bytes = [0u8; 80];
     bytes[0] = (v.command / 256 % 256) as u8;
     bytes[1] = (v.command % 256) as u8;
+    bytes[2] = (v.transmit_command / 256 % 256) as u8;
+    bytes[3] = (v.transmit_command % 256) as u8;
     bytes[4] = (v.tag / 256 % 256) as u8;
     bytes[5] = (v.tag % 256) as u8;
     bytes[6] = v.flags;

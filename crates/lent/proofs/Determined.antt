@@ -3,6 +3,7 @@
 use mathlib.Core.Path.{refl}
 use Rattle.words.proofs.Settled.{determined, Settled}
 use Rattle.lent.proofs.answers
+use Rattle.lent.proofs.descriptions
 use Rattle.lent.proofs.labels
 use Rattle.lent.proofs.over
 use Rattle.lent.proofs.setup
@@ -37,3 +38,9 @@ put-counts-settled κs a x y v w p q = (refl, λ i. (determined p q i, v .1))
 
 pub hand-back-settled : Settled 2 answers.hand_back.Kinds.ps answers.hand_back.Kinds.r answers.hand_back.Reads.Post
 hand-back-settled κs a x y v w p q = (determined (p .0) (q .0), λ i. (determined (p .1 .0) (q .1 .0) i, (determined (p .1 .1) (q .1 .1) i, v .1 .1)))
+
+pub put-cell-settled : Settled 1 descriptions.put_cell.Kinds.ps descriptions.put_cell.Kinds.r descriptions.put_cell.Reads.Post
+put-cell-settled κs a x y v w p q = (refl, λ i. (determined p q i, v .1))
+
+pub put-stack-settled : Settled 1 descriptions.put_stack.Kinds.ps descriptions.put_stack.Kinds.r descriptions.put_stack.Reads.Post
+put-stack-settled κs a x y v w p q = (refl, λ i. (determined p q i, v .1))

@@ -1,10 +1,11 @@
 -- Words put over others from the last to the first stand as those put in turn.
 use Prim.Native.Nat.{ℕ, suc, _+_, _<_}
+use native.Mathlib.Nat.{add-zero}
 use native.Mathlib.Numerals.{unary-clauses}
 use native.Mathlib.Omega.{arith}
 use mathlib.Core.Path.{_≡_, refl, _∙_}
-use mathlib.Core.List.{List, [], _∷_}
-use lib.ListN.{set}
+use mathlib.Core.List.{List, [], _∷_, _++_}
+use lib.ListN.{length, set}
 use lib.Seq.{sets, set-comm}
 
 -- the words of ys from place i on, the last of them first
@@ -22,6 +23,19 @@ sets-back : (xs ys : List ℕ) (i : ℕ) → sets xs i ys ≡ back xs i ys
 sets-back xs [] i = refl
 sets-back xs (y ∷ ys) i = set-later xs ys i (suc i) y (omega arith) ∙ rw (sets-back xs ys (suc i))
 
+-- a word behind others
+put-behind : (xs ys : List ℕ) (i a : ℕ) → sets xs i (ys ++ (a ∷ [])) ≡ set (sets xs i ys) (i + length ys) a
+put-behind xs [] i a = rw add-zero
+put-behind xs (y ∷ ys) i a =
+    let e : i + suc (length ys) ≡ suc i + length ys = omega arith in
+    rw e (put-behind (set xs i y) ys (suc i) a)
+
+-- the words of a value: four, thirty-two, and one behind them
+pub value-put :
+    (xs words : List ℕ) (a b c d e : ℕ) → length words ≡ 32 →
+    set (sets (sets xs 0 (a ∷ b ∷ c ∷ d ∷ [])) 4 words) 36 e ≡ sets xs 0 (a ∷ b ∷ c ∷ d ∷ (words ++ (e ∷ [])))
+value-put xs words a b c d e h = rw (put-behind (sets xs 0 (a ∷ b ∷ c ∷ d ∷ [])) words 4 e, h)
+
 pub two-back : (xs : List ℕ) (a b : ℕ) → sets xs 0 (a ∷ b ∷ []) ≡ set (set xs 1 b) 0 a
 two-back xs a b = sets-back xs (a ∷ b ∷ []) 0
 
@@ -32,6 +46,15 @@ pub four-back :
     (xs : List ℕ) (i a b c d : ℕ) →
     sets xs i (a ∷ b ∷ c ∷ d ∷ []) ≡ set (set (set (set xs (i + 3) d) (i + 2) c) (i + 1) b) i a
 four-back xs i a b c d = simp unary-clauses (sets-back xs (a ∷ b ∷ c ∷ d ∷ []) i)
+
+-- eight words: the last four, the first four
+pub eight-back :
+    (xs : List ℕ) (a b c d e f g h : ℕ) →
+    sets xs 0 (a ∷ b ∷ c ∷ d ∷ e ∷ f ∷ g ∷ h ∷ []) ≡ sets (sets xs 4 (e ∷ f ∷ g ∷ h ∷ [])) 0 (a ∷ b ∷ c ∷ d ∷ [])
+eight-back xs a b c d e f g h =
+    sets-back xs (a ∷ b ∷ c ∷ d ∷ e ∷ f ∷ g ∷ h ∷ []) 0
+    ∙ rw
+    (sets-back xs (e ∷ f ∷ g ∷ h ∷ []) 4, sets-back (back xs 4 (e ∷ f ∷ g ∷ h ∷ [])) (a ∷ b ∷ c ∷ d ∷ []) 0)
 
 -- nine words: the last, the four before it, the first four
 pub nine-back :

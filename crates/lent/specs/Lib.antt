@@ -3,3 +3,4 @@ pub mod Setup
 pub mod Answers
 pub mod Values
 pub mod Labels
+pub mod Descriptions

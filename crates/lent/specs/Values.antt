@@ -1,6 +1,7 @@
--- Record values as plain words: command, tag, flags, count, the thirty-two words. A word past the end of what is lent counts as 0.
+-- Record values as plain words: command, tag, flags, count, the thirty-two words, and last the transmit command, so that who lends
+-- 36 words says what was said before there were transfers. A word past the end of what is lent counts as 0.
 use Prim.Native.Nat.{ℕ, _+_, min}
-use mathlib.Core.List.{List, _∷_}
+use mathlib.Core.List.{List, [], _∷_, _++_}
 use lib.ListN.{getD}
 use Rattle.records.specs.declared.value.Record.{Record}
 use Rattle.words.specs.Fill.{fill}
@@ -14,6 +15,7 @@ unfoldable pub valueFrom : List ℕ → Record
 valueFrom xs =
     record {
       command = getD xs 0 0;
+      «transmit_command» = getD xs 36 0;
       tag = getD xs 1 0;
       flags = capped (getD xs 2 0);
       count = capped (getD xs 3 0);
@@ -21,4 +23,4 @@ valueFrom xs =
     }
 
 unfoldable pub valueWords : Record → List ℕ
-valueWords v = v .command ∷ v .tag ∷ v .flags ∷ v .count ∷ v .words
+valueWords v = v .command ∷ v .tag ∷ v .flags ∷ v .count ∷ (v .words ++ (v .«transmit_command» ∷ []))

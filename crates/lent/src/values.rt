@@ -8,6 +8,7 @@ ghost use Rattle.lent.specs.Over.{over};
 ghost use Rattle.lent.specs.Values.{capped, valueFrom, valueWords};
 use crate::over::put_four;
 use crate::over::put_words;
+use memory::ram::put;
 use memory::ram::word_at;
 use records::value::Record;
 use words::choose::smaller;
@@ -48,8 +49,10 @@ pub fn value_from(xs: &[u16]) -> Record
     let count = capped_at(xs, 3);
     let flags = capped_at(xs, 2);
     let tag = word_at(xs, 1);
+    let transmit_command = word_at(xs, 36);
     Record {
         command: word_at(xs, 0),
+        transmit_command,
         tag,
         flags,
         count,
@@ -63,4 +66,5 @@ pub fn put_value(xs: &mut [u16], v: Record)
     let words = v.words;
     put_four(xs, 0, v.command, v.tag, v.flags as u16, v.count as u16);
     put_words(xs, words);
+    put(xs, 36, v.transmit_command);
 }

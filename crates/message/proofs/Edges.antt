@@ -6,6 +6,7 @@ use Rattle.words.specs.Command.{wordCount, isModeSubaddress}
 use Rattle.words.specs.Settings.{stackSizeListed, settingsRefused, isOwn, isBroadcast, isNotOurs}
 use Rattle.words.specs.Fill.{fillFrom}
 use Rattle.words.specs.Refusal.{firstOf}
+use Rattle.records.specs.Transfer.{transferFails, breaksTransfer}
 use Rattle.records.specs.Value.{lastsZero, keepsLayout}
 use Rattle.records.specs.Fault.{expectedWords, faultsOf, faultsFor, anyFault}
 use Rattle.memory.specs.Map.{ramRefused, stackPointerPlace, lookupTable, busyPlace, isBusyAt, illegalPlace, isIllegalAt}
@@ -29,5 +30,5 @@ use Rattle.message.specs.Message.{rememberedWith, carriedOut, stateFor, 
 use Rattle.message.specs.Edges.{runCase, cases, expected}
 
 pub edges : map runCase cases ≡ expected
-unfolding bitsOf wordCount isModeSubaddress stackSizeListed settingsRefused isOwn isBroadcast isNotOurs fillFrom firstOf lastsZero keepsLayout expectedWords faultsOf faultsFor anyFault ramRefused stackPointerPlace lookupTable busyPlace isBusyAt illegalPlace isIllegalAt cellNumber kindOf applyWrites writesTo runFrom aligned placeOf rollsOver meets meetsFixed controlPart pickScheme schemeOf cellAt windowOf doubleFits soundCell stackPointer stackWindow stackSound cellFor isIllegal isBusy targetOf withheld wordsStored wordsSent actWith actOf mayMove stride moves motionWith motionOf blockStatus statusBits statusWord signalsOf deedWith deedOf entryOf interruptWord planWith planOf pointerWrites descriptorOf entryWrites deedWrites stackWrites writesOf replyWrites replyWords cellUnsound refusalFor refusedWith acceptedWith answerFor rememberedWith carriedOut stateFor answerOf step runCase cases expected
+unfolding bitsOf wordCount isModeSubaddress stackSizeListed settingsRefused isOwn isBroadcast isNotOurs fillFrom firstOf transferFails breaksTransfer lastsZero keepsLayout expectedWords faultsOf faultsFor anyFault ramRefused stackPointerPlace lookupTable busyPlace isBusyAt illegalPlace isIllegalAt cellNumber kindOf applyWrites writesTo runFrom aligned placeOf rollsOver meets meetsFixed controlPart pickScheme schemeOf cellAt windowOf doubleFits soundCell stackPointer stackWindow stackSound cellFor isIllegal isBusy targetOf withheld wordsStored wordsSent actWith actOf mayMove stride moves motionWith motionOf blockStatus statusBits statusWord signalsOf deedWith deedOf entryOf interruptWord planWith planOf pointerWrites descriptorOf entryWrites deedWrites stackWrites writesOf replyWrites replyWords cellUnsound refusalFor refusedWith acceptedWith answerFor rememberedWith carriedOut stateFor answerOf step runCase cases expected
 edges = refl

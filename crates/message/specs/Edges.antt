@@ -88,7 +88,14 @@ double pointer = put 0x143 pointer ∷ put 0x1A3 0x8000 ∷ []
 -- time tag 0789; the words 1, 2, 3 and so on
 abbrev heard : ℕ → ℕ → ℕ → Record
 heard command flags count =
-    record { command = command; tag = 0x789; flags = flags; count = count; words = fill (λ k. k + 1) zeroWords count }
+    record {
+      command = command;
+      «transmit_command» = 0;
+      tag = 0x789;
+      flags = flags;
+      count = count;
+      words = fill (λ k. k + 1) zeroWords count;
+    }
 
 abbrev case : List Write → Bool → Record → Case
 case image overwrite v = record { image = image; settings = plainSettings overwrite; value = v }

@@ -3,6 +3,7 @@
 use mathlib.Core.Path.{refl}
 use Rattle.words.proofs.Settled.{determined, Settled}
 use Rattle.records.proofs.fault
+use Rattle.records.proofs.transfer
 use Rattle.records.proofs.value
 
 pub zero-value-settled : Settled 0 value.zero_value.Kinds.ps value.zero_value.Kinds.r value.zero_value.Reads.Post
@@ -31,3 +32,15 @@ expected-words-settled κs a x y v w p q = (determined p q, refl)
 
 pub faults-for-settled : Settled 0 fault.faults_for.Kinds.ps fault.faults_for.Kinds.r fault.faults_for.Reads.Post
 faults-for-settled κs a x y v w p q = (determined p q, refl)
+
+pub is-transfer-settled : Settled 0 transfer.is_transfer.Kinds.ps transfer.is_transfer.Kinds.r transfer.is_transfer.Reads.Post
+is-transfer-settled κs a x y v w p q = (determined p q, refl)
+
+pub no-status-settled : Settled 0 transfer.no_status.Kinds.ps transfer.no_status.Kinds.r transfer.no_status.Reads.Post
+no-status-settled κs a x y v w p q = (determined p q, refl)
+
+pub wrong-gap-settled : Settled 0 transfer.wrong_gap.Kinds.ps transfer.wrong_gap.Kinds.r transfer.wrong_gap.Reads.Post
+wrong-gap-settled κs a x y v w p q = (determined p q, refl)
+
+pub bad-second-settled : Settled 0 transfer.bad_second.Kinds.ps transfer.bad_second.Kinds.r transfer.bad_second.Reads.Post
+bad-second-settled κs a x y v w p q = (determined p q, refl)

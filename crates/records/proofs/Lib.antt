@@ -1,2 +1,4 @@
 pub mod Turns
+pub mod Rules
+pub mod Before
 pub mod Determined

@@ -4,6 +4,7 @@ use mathlib.Core.Bool.{Bool, not, cond, _&&_, _||_}
 use lib.Dec.{eqb}
 use Rattle.records.specs.declared.value.Record.{Record}
 use Rattle.words.specs.Command.{transmits, wordCount}
+use Rattle.records.specs.Transfer.{hasNoStatus, hasWrongGap, hasBadSecond, transferFails}
 use Rattle.records.specs.Value.{hasWrongSync, hasInvalidWord}
 use Rattle.records.specs.declared.fault.Faults.{Faults}
 
@@ -11,15 +12,19 @@ use Rattle.records.specs.declared.fault.Faults.{Faults}
 unfoldable pub expectedWords : ℕ → ℕ
 expectedWords command = cond (transmits command) 0 (wordCount command)
 
--- "Sync fault and invalid word come from the flags. Count fault: count differs from expected and neither flag is set."
+-- "Sync fault and invalid word come from the flags. Count fault: count differs from expected and neither flag is set." Of flags 16 to 64:
+-- "each is a fault, and with any of them no count fault is set."
 -- The caller says how many words are expected, and whether the contents are at fault.
 unfoldable pub faultsOf : ℕ → Bool → Record → Faults
 faultsOf expected contents v =
     record {
       sync = hasWrongSync v;
       invalid = hasInvalidWord v;
-      count = not (eqb (v .count) expected) && not (hasWrongSync v || hasInvalidWord v);
+      count = not (eqb (v .count) expected) && not ((hasWrongSync v || hasInvalidWord v) || transferFails v);
       contents = contents;
+      «no_status» = hasNoStatus v;
+      gap = hasWrongGap v;
+      second = hasBadSecond v;
     }
 
 -- "Contents fault: a broadcast transmit."
@@ -28,4 +33,5 @@ faultsFor broadcast v = faultsOf (expectedWords (v .command)) (broadcast && tran
 
 -- "Valid means no fault."
 unfoldable pub anyFault : Faults → Bool
-anyFault f = (f .sync || f .invalid) || (f .count || f .contents)
+anyFault f =
+    ((f .sync || f .invalid) || (f .count || f .contents)) || (f .«no_status» || (f .gap || f .second))

@@ -1,2 +1,3 @@
+pub mod Transfer
 pub mod Value
 pub mod Fault

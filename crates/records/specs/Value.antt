@@ -1,19 +1,20 @@
 -- The record value and the rules that it keeps.
 use Prim.Native.Nat.{ℕ, zero, suc, _/_, _%_}
-use mathlib.Core.Bool.{Bool, true, _&&_, _||_}
+use mathlib.Core.Bool.{Bool, true, not, _&&_, _||_}
 use mathlib.Core.List.{List}
 use lib.ListN.{getD, replicate}
 use lib.Dec.{ltb, leb, eqb}
 use Rattle.records.specs.declared.value.Record.{Record}
+use Rattle.records.specs.Transfer.{breaksTransfer}
 
 -- "the rest zero": what a refusal carries for a value's words, and for the value
 abbrev pub zeroWords : List ℕ
 zeroWords = replicate 32 0
 
 unfoldable pub zeroValue : Record
-zeroValue = record { command = 0; tag = 0; flags = 0; count = 0; words = zeroWords }
+zeroValue = record { command = 0; «transmit_command» = 0; tag = 0; flags = 0; count = 0; words = zeroWords }
 
--- "flags (1 = bus B, 2 = wrong sync, 4 = invalid word; higher bits zero)"
+-- "flags (1 = bus B, 2 = wrong sync, 4 = invalid word; ..)"
 abbrev pub onBusB : Record → Bool
 onBusB v = eqb (v .flags % 2) 1
 
@@ -28,6 +29,8 @@ unfoldable pub lastsZero : List ℕ → ℕ → ℕ → Bool
 lastsZero words count zero = true
 lastsZero words count (suc n) = lastsZero words count n && (ltb n count || eqb (getD words n 0) 0)
 
--- "higher bits zero"; "Count is .. 0 to 33"; "Words after the first min(count, 32) are zero."
+-- "higher bits zero", those above the flags of a transfer; "Count is .. 0 to 33"; the rules of a transfer; "Words after the first min(count,
+-- 32) are zero."
 unfoldable pub keepsLayout : Record → Bool
-keepsLayout v = (leb (v .flags) 7 && leb (v .count) 33) && lastsZero (v .words) (v .count) 32
+keepsLayout v =
+    ((leb (v .flags) 127 && leb (v .count) 33) && not (breaksTransfer v)) && lastsZero (v .words) (v .count) 32

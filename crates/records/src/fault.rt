@@ -1,6 +1,9 @@
 // Rule 1: the faults of a message.
 ghost use mathlib.Core.Path.{_≡_};
 ghost use Rattle.records.specs.Fault.{expectedWords, faultsOf, faultsFor, anyFault};
+use crate::transfer::bad_second;
+use crate::transfer::no_status;
+use crate::transfer::wrong_gap;
 use crate::value::Record;
 use crate::value::invalid_word;
 use crate::value::wrong_sync;
@@ -15,6 +18,10 @@ pub struct Faults {
     pub invalid: bool,
     pub count: bool,
     pub contents: bool,
+    // of a transfer: the transmitter gave no status, a wrong gap, sync or address in it, or the second command is bad
+    pub no_status: bool,
+    pub gap: bool,
+    pub second: bool,
 }
 
 pub fn expected_words(command: u16) -> u16
@@ -29,11 +36,21 @@ pub fn faults_of(expected: u16, contents: bool, v: Record) -> Faults
 {
     let sync = wrong_sync(v);
     let invalid = invalid_word(v);
+    let no_status = no_status(v);
+    let gap = wrong_gap(v);
+    let second = bad_second(v);
+    let told = either(
+        either(sync, invalid),
+        either(no_status, either(gap, second)),
+    );
     Faults {
         sync,
         invalid,
-        count: both(no(v.count as u16 == expected), no(either(sync, invalid))),
+        count: both(no(v.count as u16 == expected), no(told)),
         contents,
+        no_status,
+        gap,
+        second,
     }
 }
 
@@ -50,5 +67,8 @@ pub fn faults_for(broadcast: bool, v: Record) -> Faults
 pub fn any_fault(f: Faults) -> bool
     ensures { λ r. ⌜ r ≡ anyFault f ⌝ }
 {
-    either(either(f.sync, f.invalid), either(f.count, f.contents))
+    either(
+        either(either(f.sync, f.invalid), either(f.count, f.contents)),
+        either(f.no_status, either(f.gap, f.second)),
+    )
 }

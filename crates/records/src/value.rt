@@ -1,11 +1,15 @@
 // The record value, its flags, and the rules that a value keeps.
 ghost use mathlib.Core.Path.{_≡_};
-ghost use Rattle.records.specs.Value.{zeroValue, keepsLayout, onBusB, hasWrongSync, hasInvalidWord, lastsZero};
+ghost use Rattle.records.specs.Value.{zeroValue, onBusB, hasWrongSync, hasInvalidWord, lastsZero, keepsLayout};
+use crate::transfer::breaks_transfer;
 use words::choose::both;
+use words::choose::no;
 
 // A message record as a value. It can hold what breaks the layout, since the writer refuses such a value.
 pub struct Record {
     pub command: u16,
+    // of the terminal that transmits in an RT-to-RT transfer; else 0
+    pub transmit_command: u16,
     pub tag: u16,
     pub flags: u8,
     pub count: u8,
@@ -17,6 +21,7 @@ pub fn zero_value() -> Record
 {
     Record {
         command: 0,
+        transmit_command: 0,
         tag: 0,
         flags: 0,
         count: 0,
@@ -60,7 +65,7 @@ pub fn keeps_layout(v: Record) -> bool
 {
     let words = v.words;
     both(
-        both(v.flags <= 7, v.count <= 33),
+        both(both(v.flags <= 127, v.count <= 33), no(breaks_transfer(v))),
         lasts_zero(words, v.count),
     )
 }

@@ -82,7 +82,12 @@ pub put-none : {l : List ℕ} {at : ℕ} → length l < 2 ^ 64 → at < 2 ^ 64 �
 put-none h k = record { short = h; bytes = refl; place = omega arith }
 
 -- text that begins past the buffer's end
-pub put-out : {l xs : List ℕ} {at p : ℕ} → length l < 2 ^ 64 → length l ≤ at → p ≡ placeAfter at (length xs) → Put l at xs l p
+pub put-out :
+    {l xs : List ℕ} {at p : ℕ} →
+    length l < 2 ^ 64 →
+    length l ≤ at →
+    p ≡ placeAfter at (length xs) →
+    Put l at xs l p
 put-out {l} {xs} {at} h k e = record { short = h; bytes = rw (sets-out l xs at k); place = e }
 
 -- text whose place after it can be counted
@@ -114,7 +119,9 @@ pub put-then :
 put-then {l} {l₁} {l₂} {xs} {ys} {at} {p} a b =
     record {
       short = a .short;
-      bytes = rw (← sets-append l xs ys at, ← a .bytes, ← sets-after l₁ ys at (length xs) (b .short), ← a .place) (b .bytes);
+      bytes =
+          rw (← sets-append l xs ys at, ← a .bytes, ← sets-after l₁ ys at (length xs) (b .short), ← a .place)
+          (b .bytes);
       place = rw length-append (omega (arith, a .place, b .place));
     }
 

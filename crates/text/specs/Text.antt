@@ -46,7 +46,8 @@ pub record Put (old : List ℕ) (at : ℕ) (text : List ℕ) (new : List ℕ) (n
   pub bytes : new ≡ sets old at text
   pub place : next ≡ placeAfter at (length text)
 
--- `text` put to the front of the buffer `old` gives the buffer `new`, and `used` is its length, also where not all of it fits.
+-- `text` put to the front of the buffer `old` gives the buffer `new`, and `used` is its length, also where not all of
+-- it fits.
 pub record PutFirst (old text new : List ℕ) (used : ℕ) : Type 0 where
   pub bytes : new ≡ sets old 0 text
   pub length : used ≡ length text

@@ -1,13 +1,17 @@
 -- Where RAM and settings are not refused, no record is refused for RAM, room or settings.
 use Prim.Native.Nat.{ℕ}
 use mathlib.Core.Path.{_≡_, refl, sym, _∙_}
-use mathlib.Core.List.{[], _∷_}
+use mathlib.Core.List.{List, [], _∷_}
+use lib.ListN.{length}
 use lib.Dec.{leb}
 use Rattle.words.specs.declared.settings.Settings.{Settings}
+use Rattle.words.specs.declared.remembered.Remembered.{Remembered}
 use Rattle.words.specs.Number.{ramLength, badSettings, addressBeyond}
 use Rattle.words.specs.Refusal.{_when_, firstOf}
 use Rattle.words.proofs.Refusals.{accepted, first-stops, first-passes}
-use Rattle.message.specs.Tests.{earlyTests}
+use Rattle.message.specs.Heard.{Heard}
+use Rattle.message.specs.Tests.{earlyTests, testsFor, refusalFor}
+use Rattle.who.specs.Taken.{terminalOf}
 use Rattle.who.specs.Tests.{replayTests, replayRefusal, whoTests, whoRefusal}
 
 pub replay-early :
@@ -17,16 +21,24 @@ replay-early words s n e z =
     let t = accepted (replayTests words s) refl (sym e ∙ z) in
     rw (t ramLength, t badSettings)
 
+-- and where they are refused, so is every record
+pub replay-late :
+    (ram : List ℕ) (s : Settings) (h : Heard) (before : Remembered) (n : ℕ) →
+    n ≡ replayRefusal (length ram) s →
+    (n ≡ 0 → ⊥) →
+    refusalFor s h (terminalOf ram before) ≡ 0 →
+    ⊥
+unfolding replayRefusal refusalFor firstOf
+replay-late ram s h before n e m z =
+    let t = accepted (testsFor s h (terminalOf ram before)) refl z in
+    m (e ∙ rw (t ramLength, t badSettings))
+
 -- the question's tests are those and one more
 pub asked-replay : (words : ℕ) (s : Settings) (a : ℕ) → whoRefusal words s a ≡ 0 → replayRefusal words s ≡ 0
 unfolding replayRefusal whoRefusal firstOf
 asked-replay words s a e =
     let t = accepted (whoTests words s a) refl e in
     rw (t ramLength, t badSettings)
-
-pub asked-early :
-    (words : ℕ) (s : Settings) (a n : ℕ) → n ≡ whoRefusal words s a → n ≡ 0 → firstOf (earlyTests words 33 s) ≡ 0
-asked-early words s a n e z = replay-early words s 0 (sym (asked-replay words s a (sym e ∙ z))) refl
 
 -- tested in turn
 pub who-stops : (words : ℕ) (s : Settings) (a n : ℕ) → n ≡ replayRefusal words s → (n ≡ 0 → ⊥) → n ≡ whoRefusal words s a

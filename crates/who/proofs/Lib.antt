@@ -7,9 +7,4 @@ pub mod Turns
 pub mod Alike
 pub mod Answers
 pub mod Parts
-pub mod Beside
-pub mod Marked
-pub mod Filling
-pub mod Marks
-pub mod Tables
 pub mod Determined

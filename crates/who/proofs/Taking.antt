@@ -59,30 +59,23 @@ module _ (s : Settings) (h : Heard) (x : State) where
 
 -- ---- the code's way through a record
 
-module _
-    (s : Settings)
-    (ram : List ℕ)
-    (before : Remembered)
-    (bytes : List ℕ)
-    (early : firstOf (earlyTests (length ram) 33 s) ≡ 0)
-    (reading : Reading)
-    (e : reading ≡ readRecord bytes)
-  where
-    abbrev h : Heard
-    h = heardBytes bytes
+module _ (s : Settings) (ram : List ℕ) (before : Remembered) (bytes : List ℕ) where
+  abbrev h : Heard
+  h = heardBytes bytes
 
-    abbrev x : State
-    x = terminalOf ram before
+  abbrev x : State
+  x = terminalOf ram before
 
+  abbrev Leaves : Taken → List ℕ → Type 0
+  Leaves t m = (t ≡ takenOf s h x) × (m ≡ step s h x .ram)
+
+  pub refused : (refusalFor s h x ≡ 0 → ⊥) → Leaves Passed ram
+  unfolding takenOf
+  refused m = (rw (ne-eqb (refusalFor s h x) 0 m), rw (refused-state s h x m))
+
+  module _ (early : firstOf (earlyTests (length ram) 33 s) ≡ 0) (reading : Reading) (e : reading ≡ readRecord bytes) where
     abbrev v : Record
     v = reading .value
-
-    abbrev Leaves : Taken → List ℕ → Type 0
-    Leaves t m = (t ≡ takenOf s h x) × (m ≡ step s h x .ram)
-
-    refused : (refusalFor s h x ≡ 0 → ⊥) → Leaves Passed ram
-    unfolding takenOf
-    refused m = (rw (ne-eqb (refusalFor s h x) 0 m), rw (refused-state s h x m))
 
     pub not-read : (reading .number ≡ 0 → ⊥) → Leaves Passed ram
     not-read m =

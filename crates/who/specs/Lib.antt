@@ -5,5 +5,3 @@ pub mod Values
 pub mod Placed
 pub mod Replay
 pub mod Answered
-pub mod Mark
-pub mod Table

@@ -1,8 +1,6 @@
 // Who put this word here: the last record of a trace that wrote a word of RAM. Document 02, request 10.
-pub mod mark;
 pub mod origin;
 pub mod question;
-pub mod table;
-mod taken;
-mod tests;
+pub mod taken;
+pub mod tests;
 pub mod values;

@@ -1,8 +1,5 @@
 // The question about one address, asked of a trace as it is replayed.
 ghost use mathlib.Core.Path.{_≡_};
-ghost use lib.ListN.{length};
-ghost use Rattle.words.specs.Refusal.{firstOf};
-ghost use Rattle.message.specs.Tests.{earlyTests};
 ghost use Rattle.message.specs.Heard.{heardBytes};
 ghost use Rattle.who.specs.Replay.{heardIn, replayOf, replayRecord, replay, beginning, goneOn, asked};
 use crate::origin::Who;
@@ -37,7 +34,6 @@ pub fn begin() -> Standing
 
 // One record more.
 fn replay_record(ram: &mut [u16], s: Settings, address: u16, at: Standing, bytes: &[u8]) -> Standing
-    requires { ⌜ firstOf (earlyTests (length (now ram)) 33 s) ≡ 0 ⌝ }
     ensures { λ r. ⌜ replayOf (now (ram .exit)) r ≡ replayRecord s address (heardBytes (now (bytes .entry))) (replayOf (now (ram .entry)) at) ⌝ }
 {
     let before = at.remembered;
@@ -63,7 +59,6 @@ fn replay_record(ram: &mut [u16], s: Settings, address: u16, at: Standing, bytes
 
 // All whole records of a part of a trace.
 fn replay_all(ram: &mut [u16], s: Settings, address: u16, at: Standing, trace: &[u8]) -> Standing
-    requires { ⌜ firstOf (earlyTests (length (now ram)) 33 s) ≡ 0 ⌝ }
     ensures { λ r. ⌜ replayOf (now (ram .exit)) r ≡ replay s address (heardIn (now (trace .entry))) (replayOf (now (ram .entry)) at) ⌝ }
 {
     let records = trace.len() / 80;

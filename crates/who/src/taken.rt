@@ -6,6 +6,7 @@ ghost use Rattle.message.specs.Heard.{heardBytes};
 ghost use Rattle.message.specs.Tests.{earlyTests};
 ghost use Rattle.message.specs.Message.{step};
 ghost use Rattle.who.specs.Taken.{terminalOf, takenOf};
+use crate::tests::replay_refusal;
 use carry::carry::carry_out;
 use decide::plan::Plan;
 use decide::plan::plan_of;
@@ -21,7 +22,7 @@ pub enum Taken {
 }
 
 // The tests about RAM and settings have passed, once for all records.
-pub(crate) fn take_record(ram: &mut [u16], s: Settings, before: Remembered, bytes: &[u8]) -> Taken
+fn take_tested(ram: &mut [u16], s: Settings, before: Remembered, bytes: &[u8]) -> Taken
     requires { ⌜ firstOf (earlyTests (length (now ram)) 33 s) ≡ 0 ⌝ }
     ensures taken { λ r. ⌜ r ≡ takenOf s (heardBytes (now (bytes .entry))) (terminalOf (now (ram .entry)) before) ⌝ }
     ensures ram { λ r. ⌜ now (ram .exit) ≡ step s (heardBytes (now (bytes .entry))) (terminalOf (now (ram .entry)) before) .ram ⌝ }
@@ -42,4 +43,15 @@ pub(crate) fn take_record(ram: &mut [u16], s: Settings, before: Remembered, byte
         status: deed.status,
     };
     Taken::Carried(plan, remembered)
+}
+
+// A record, whatever RAM and settings are: where they are refused, every record is.
+pub fn take_record(ram: &mut [u16], s: Settings, before: Remembered, bytes: &[u8]) -> Taken
+    ensures taken { λ r. ⌜ r ≡ takenOf s (heardBytes (now (bytes .entry))) (terminalOf (now (ram .entry)) before) ⌝ }
+    ensures ram { λ r. ⌜ now (ram .exit) ≡ step s (heardBytes (now (bytes .entry))) (terminalOf (now (ram .entry)) before) .ram ⌝ }
+{
+    if replay_refusal(ram.len(), s) != 0 {
+        return Taken::Passed;
+    }
+    take_tested(ram, s, before, bytes)
 }

@@ -1,5 +1,6 @@
-//! The labels of two terminals side by side: random images, the whole area
-//! and every cell number, every lent word.
+//! The labels of two terminals side by side, and what they say cells and stack
+//! are like: random images, the whole area and every cell number, every lent
+//! word.
 
 pub mod coverage;
 pub mod draw;
@@ -30,6 +31,9 @@ pub struct Answers {
     pub pairs: Vec<u16>,
     /// For each number asked for: what refuses it or 0, and its listing.
     pub cells: Vec<(u16, Vec<u16>)>,
+    /// The same for the descriptions of cells, and that of the stack.
+    pub described: Vec<(u16, Vec<u16>)>,
+    pub stack: (u16, Vec<u16>),
 }
 
 pub fn ask(side: &LabelSide, asked: &Asked) -> Answers {
@@ -44,12 +48,21 @@ pub fn ask(side: &LabelSide, asked: &Asked) -> Answers {
         let number = (side.cell)(ram, &settings, cell, &mut listing);
         (number, listing)
     };
+    let like = |cell| {
+        let mut description = vec![GUARD; asked.description_room];
+        let number = (side.described_cell)(ram, &settings, cell, &mut description);
+        (number, description)
+    };
+    let mut stack = vec![GUARD; asked.description_room];
+    let stack = ((side.described_stack)(ram, &settings, &mut stack), stack);
     Answers {
         area,
         counts,
         unsound,
         pairs,
         cells: cell_numbers().map(one).collect(),
+        described: cell_numbers().map(like).collect(),
+        stack,
     }
 }
 
@@ -119,6 +132,16 @@ pub fn report(left: &LabelSide, right: &LabelSide, asked: &Asked) -> String {
         for (place, (&left, &right)) in one.1.iter().zip(&other.1).enumerate() {
             line(format!("cell {cell}, listing {place}"), left, right);
         }
+    }
+    for (cell, (one, other)) in cell_numbers().zip(one.described.iter().zip(&other.described)) {
+        line(format!("cell {cell} described"), one.0, other.0);
+        for (place, (&left, &right)) in one.1.iter().zip(&other.1).enumerate() {
+            line(format!("cell {cell}, description {place}"), left, right);
+        }
+    }
+    line("stack described".into(), one.stack.0, other.stack.0);
+    for (place, (&left, &right)) in one.stack.1.iter().zip(&other.stack.1).enumerate() {
+        line(format!("stack, description {place}"), left, right);
     }
     write_settings(&mut text, asked.settings).expect("a string takes all");
     text + &unpack(&image_bytes(&asked.ram[..RAM_WORDS]))

@@ -10,7 +10,6 @@ use super::say;
 use super::soundness::{by_faults, cell_faults, stack_faults};
 use super::source::Source;
 use crate::engine;
-use crate::terminal::cells::Stack;
 
 pub fn run(given: &Given, output: &mut dyn Write) -> Result<ExitCode, Problem> {
     let source = Source::open(given)?;
@@ -34,7 +33,8 @@ pub fn run(given: &Given, output: &mut dyn Write) -> Result<ExitCode, Problem> {
 }
 
 fn sound(ram: &[u16], source: &Source) -> String {
-    let stack = addresses(&Stack::read(ram, &source.settings).block);
+    let stack = engine::describe_stack(ram, &source.settings);
+    let stack = addresses(&stack.expect("the check has passed").block);
     format!("0: the stack {stack} is sound, and so is every cell\n")
 }
 

@@ -5,7 +5,8 @@ use super::replay::Replay;
 use super::say;
 use super::soundness::{cell_faults, stack_faults};
 use crate::engine;
-use crate::terminal::cells::{Cell, Kind, Scheme};
+use crate::terminal::cells::{Kind, Scheme};
+use crate::terminal::described::CellDescription;
 use crate::terminal::message::cell_kind;
 use crate::terminal::words::Command;
 use crate::terminal::{Answer, Record, Settings};
@@ -113,7 +114,7 @@ fn who_shares(
 ) -> Option<String> {
     let sharers = engine::label_cell(&replay.ram, &replay.settings, answer.cell).ok()?;
     let touched = |cell: &u16| {
-        let window = replay.cell(*cell).window();
+        let window = replay.cell(*cell).window;
         places.iter().any(|place| window.contains(place))
     };
     let cells = sharers.iter().map(|sharer| sharer.cell).filter(touched);
@@ -147,10 +148,10 @@ fn why_none(replay: &Replay, record: &Record, answer: &Answer, sends: bool) -> &
 }
 
 /// A cell's scheme and window.
-pub fn scheme(cell: &Cell) -> String {
-    let window = cell.window();
+pub fn scheme(cell: &CellDescription) -> String {
+    let window = &cell.window;
     match cell.scheme {
-        Scheme::Single => format!("one block, {}", addresses(&window)),
+        Scheme::Single => format!("one block, {}", addresses(window)),
         Scheme::Double => {
             let middle = window.start + window.len() / 2;
             let first = addresses(&(window.start..middle));
@@ -159,11 +160,11 @@ pub fn scheme(cell: &Cell) -> String {
                 addresses(&(middle..window.end))
             )
         }
-        Scheme::Circular(size) => format!("a circle of {size} words, {}", addresses(&window)),
+        Scheme::Circular(size) => format!("a circle of {size} words, {}", addresses(window)),
     }
 }
 
-fn pointer(owners: &Owners, answer: &Answer, cell: &Cell) -> String {
+fn pointer(owners: &Owners, answer: &Answer, cell: &CellDescription) -> String {
     let name = cell_name(owners, answer.cell);
     let (before, after) = (answer.pointer_before, answer.pointer_after);
     let over = if say::rolled_over(answer.block_status) {

@@ -1,5 +1,6 @@
 //! What is known of the messages that stored the words of RAM.
 
+use super::names::kind_of;
 use super::replay::Replay;
 use crate::engine;
 use crate::terminal::cells::{Kind, RAM_WORDS};
@@ -39,7 +40,7 @@ impl History {
             block_status: answer.block_status,
         };
         let places = self.replay.places(&answer);
-        if self.replay.cell_of(&answer).kind != Kind::Transmit {
+        if kind_of(answer.cell) != Kind::Transmit {
             for &place in &places {
                 self.facts[place] = facts;
             }

@@ -11,7 +11,7 @@ use super::say;
 use super::soundness::{cell_faults, stack_faults};
 use super::source::Source;
 use crate::engine;
-use crate::terminal::cells::{Cell, Kind};
+use crate::terminal::cells::Kind;
 
 pub fn run(given: &Given, output: &mut dyn Write) -> Result<ExitCode, Problem> {
     let subaddress = match given.files.get(1) {
@@ -120,9 +120,10 @@ impl Shared<'_> {
         Ok(text)
     }
 
+    /// The window of a cell that the label speaks of.
     fn window(&self, cell: u16) -> Range<usize> {
-        let (kind, subaddress) = (names::kind_of(cell), names::subaddress_of(cell));
-        Cell::read(self.ram, &self.source.settings, kind, subaddress).window()
+        let cell = engine::describe_cell(self.ram, &self.source.settings, cell);
+        cell.expect("RAM and settings are not refused").window
     }
 
     /// The words that two cells share.

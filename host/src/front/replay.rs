@@ -1,8 +1,8 @@
 //! The proved terminal in the middle of a trace.
 
-use super::names::{kind_of, subaddress_of};
 use crate::engine::{self, Walk};
-use crate::terminal::cells::{Cell, Kind};
+use crate::terminal::cells::Kind;
+use crate::terminal::described::{CellDescription, StackDescription};
 use crate::terminal::message::REPLY_WORDS;
 use crate::terminal::who::Origin;
 use crate::terminal::writes::Part;
@@ -59,17 +59,24 @@ impl Replay {
 
     /// The cell of an accepted message, with the pointer before it. No message
     /// moves a window or changes a scheme.
-    pub fn cell_of(&self, answer: &Answer) -> Cell {
-        Cell {
+    pub fn cell_of(&self, answer: &Answer) -> CellDescription {
+        CellDescription {
             pointer: answer.pointer_before,
             ..self.cell(answer.cell)
         }
     }
 
-    /// A cell as it stands now.
-    pub fn cell(&self, number: u16) -> Cell {
-        let (kind, subaddress) = (kind_of(number), subaddress_of(number));
-        Cell::read(&self.ram, &self.settings, kind, subaddress)
+    /// A cell as it stands now. Nobody asks about one where RAM or settings
+    /// are refused.
+    pub fn cell(&self, number: u16) -> CellDescription {
+        let cell = engine::describe_cell(&self.ram, &self.settings, number);
+        cell.expect("RAM and settings are not refused")
+    }
+
+    /// The stack as it stands now, as of [`Replay::cell`].
+    pub fn stack(&self) -> StackDescription {
+        let stack = engine::describe_stack(&self.ram, &self.settings);
+        stack.expect("RAM and settings are not refused")
     }
 
     /// Where the data words of the message that was just accepted lie, in
@@ -101,10 +108,9 @@ impl Replay {
 
 /// The places of a whole message from the cell's pointer on, wrapping at the
 /// window's end.
-fn from_pointer(cell: &Cell) -> impl Iterator<Item = usize> {
-    let window = cell.window();
+fn from_pointer(cell: &CellDescription) -> impl Iterator<Item = usize> {
     let pointer = usize::from(cell.pointer);
-    let length = window.len();
-    let start = window.start;
+    let length = cell.window.len();
+    let start = cell.window.start;
     (0..REPLY_WORDS - 1).map(move |place| start + (pointer - start + place) % length)
 }

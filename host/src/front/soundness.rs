@@ -1,67 +1,82 @@
-//! Why a stack or a cell is unsound, in words. That it is unsound is the proved
-//! library's answer; here is only what a person looks at next.
+//! Why a stack or a cell is unsound, in words. Which faults there are is the
+//! proved library's answer.
 
 use std::ops::Range;
 
-use super::names::{addresses, kind_of, subaddress_of};
-use crate::terminal::cells::{meet, Cell, Scheme, Stack, FIXED_AREAS, RAM_WORDS};
+use super::names::addresses;
+use crate::engine;
+use crate::terminal::cells::FIXED_AREAS;
+use crate::terminal::described::{cell_fault, stack_fault};
 use crate::terminal::Settings;
 
 /// What is wrong with a stack; empty where nothing is.
 pub fn stack_faults(ram: &[u16], settings: &Settings) -> Vec<String> {
-    let Stack { pointer, block } = Stack::read(ram, settings);
+    let stack = match engine::describe_stack(ram, settings) {
+        Ok(stack) => stack,
+        Err(_) => return Vec::new(),
+    };
+    let (pointer, block) = (stack.pointer, addresses(&stack.block));
+    let has = |fault: u16| stack.faults & fault != 0;
     let mut faults = Vec::new();
-    if pointer % 4 != 0 {
+    if has(stack_fault::POINTER_OFF) {
         faults.push(format!("its pointer {pointer:04X} is not a multiple of 4"));
     }
-    if pointer > 0x0FFC {
+    if has(stack_fault::POINTER_OVER) {
         faults.push(format!("its pointer {pointer:04X} is over 0FFC"));
-    } else if block.end > RAM_WORDS {
-        faults.push(format!("its block {} leaves the RAM", addresses(&block)));
+    } else if has(stack_fault::BLOCK_OVER_END) {
+        faults.push(format!("its block {block} leaves the RAM"));
     }
-    faults.extend(met(&block, "its block", fixed_areas(&block)));
+    let areas = [
+        (stack_fault::LOW_AREA, fixed_area(0)),
+        (stack_fault::HIGH_AREA, fixed_area(1)),
+    ];
+    faults.extend(met("its block", &stack.block, stack.faults, &areas));
     faults
 }
 
 /// What is wrong with a cell beside a sound stack; empty where nothing is.
 pub fn cell_faults(ram: &[u16], settings: &Settings, number: u16) -> Vec<String> {
-    let cell = Cell::read(ram, settings, kind_of(number), subaddress_of(number));
-    let window = cell.window();
+    let cell = engine::describe_cell(ram, settings, number);
+    let stack = engine::describe_stack(ram, settings);
+    let (cell, stack) = match (cell, stack) {
+        (Ok(cell), Ok(stack)) => (cell, stack),
+        _ => return Vec::new(),
+    };
+    let (pointer, window) = (cell.pointer, addresses(&cell.window));
+    let has = |fault: u16| cell.faults & fault != 0;
     let mut faults = Vec::new();
-    if usize::from(cell.pointer) >= RAM_WORDS {
-        faults.push(format!(
-            "its pointer {:04X} is outside the RAM",
-            cell.pointer
-        ));
-    } else if window.end > RAM_WORDS {
-        let over = format!("its window {} goes over the RAM's end", addresses(&window));
-        faults.push(over);
+    if has(cell_fault::POINTER_OUTSIDE) {
+        faults.push(format!("its pointer {pointer:04X} is outside the RAM"));
+    } else if has(cell_fault::WINDOW_OVER_END) {
+        faults.push(format!("its window {window} goes over the RAM's end"));
     }
-    if cell.scheme == Scheme::Double && cell.pointer % 32 != 0 {
-        let pointer = cell.pointer;
+    if has(cell_fault::DOUBLE_OFF) {
         faults.push(format!(
             "its double pointer {pointer:04X} is not a multiple of 32"
         ));
     }
-    let mut areas = fixed_areas(&window);
-    let stack = Stack::read(ram, settings).block;
-    if meet(&window, &stack) {
-        areas.push(format!("the stack {}", addresses(&stack)));
-    }
-    faults.extend(met(&window, "its window", areas));
+    let areas = [
+        (cell_fault::LOW_AREA, fixed_area(0)),
+        (cell_fault::HIGH_AREA, fixed_area(1)),
+        (
+            cell_fault::STACK,
+            format!("the stack {}", addresses(&stack.block)),
+        ),
+    ];
+    faults.extend(met("its window", &cell.window, cell.faults, &areas));
     faults
 }
 
-/// The fixed areas that a run of words meets.
-fn fixed_areas(range: &Range<usize>) -> Vec<String> {
-    let met = FIXED_AREAS.iter().filter(|area| meet(area, range));
-    met.map(|area| format!("the fixed area {}", addresses(area)))
-        .collect()
+fn fixed_area(place: usize) -> String {
+    format!("the fixed area {}", addresses(&FIXED_AREAS[place]))
 }
 
-fn met(range: &Range<usize>, what: &str, areas: Vec<String>) -> Option<String> {
-    let met = format!("{what} {} meets", addresses(range));
-    (!areas.is_empty()).then(|| format!("{met} {}", areas.join(" and ")))
+/// What a run of words meets, of the areas whose faults are set.
+fn met(what: &str, range: &Range<usize>, set: u16, areas: &[(u16, String)]) -> Option<String> {
+    let met = areas.iter().filter(|(fault, _)| set & fault != 0);
+    let met: Vec<&str> = met.map(|(_, area)| area.as_str()).collect();
+    let run = addresses(range);
+    (!met.is_empty()).then(|| format!("{what} {run} meets {}", met.join(" and ")))
 }
 
 /// Cells with the same faults, in the order of their first.

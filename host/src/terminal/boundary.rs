@@ -5,6 +5,10 @@
 //! A slice may have any length: missing words are read as 0, and words for
 //! which there is no room are dropped.
 
+use std::ops::Range;
+
+use super::cells::{Kind, Scheme};
+use super::described::{self, CellDescription, StackDescription};
 use super::label::{self, AreaLabel, Sharer};
 use super::records::RECORD_WORDS;
 use super::{carry_out, Answer, MessageRef, Record, Remembered, Settings};
@@ -27,6 +31,11 @@ pub const COUNTS_WORDS: usize = 2;
 pub const UNSOUND_WORDS: usize = CELLS;
 /// Words of the pairs, when each two cells meet.
 pub const PAIRS_WORDS: usize = CELLS * (CELLS - 1) / 2;
+
+/// Words of a cell's description.
+pub const CELL_DESCRIPTION_WORDS: usize = 8;
+/// Words of the stack's description.
+pub const STACK_DESCRIPTION_WORDS: usize = 4;
 
 /// Words of a value before its data words.
 const HEAD_WORDS: usize = 4;
@@ -116,6 +125,23 @@ pub fn label_area(
         *word = lower << 8 | higher;
     }
     number
+}
+
+/// What a cell is like: the number, and the words that tell it.
+#[inline(never)]
+pub fn describe_cell(ram: &[u16], settings: &[u16], cell: u16, description: &mut [u16]) -> u16 {
+    let described = described::describe_cell(ram, &settings_of(settings), cell);
+    put_or_zero(description, described.map(|it| cell_description_words(&it)))
+}
+
+/// What the stack is like: the number, and the words that tell it.
+#[inline(never)]
+pub fn describe_stack(ram: &[u16], settings: &[u16], description: &mut [u16]) -> u16 {
+    let described = described::describe_stack(ram, &settings_of(settings));
+    put_or_zero(
+        description,
+        described.map(|it| stack_description_words(&it)),
+    )
 }
 
 fn put_outcome(outcome: (Answer, Remembered), remembered: &mut [u16], answer: &mut [u16]) -> u16 {
@@ -271,4 +297,62 @@ pub fn area_label_of(counts: [u16; COUNTS_WORDS], unsound: &[u16], pairs: &[u16]
         unsound: unsound[..unsound_cells].to_vec(),
         pairs: pairs[..all_pairs].iter().map(pair).collect(),
     }
+}
+
+fn cell_description_words(cell: &CellDescription) -> [u16; CELL_DESCRIPTION_WORDS] {
+    let scheme = match cell.scheme {
+        Scheme::Single => 1,
+        Scheme::Double => 2,
+        Scheme::Circular(_) => 3,
+    };
+    [
+        cell.kind as u16,
+        cell.subaddress,
+        cell.is_read.into(),
+        scheme,
+        cell.pointer,
+        cell.window.start as u16,
+        cell.window.len() as u16,
+        cell.faults,
+    ]
+}
+
+pub fn cell_description_of(words: &[u16; CELL_DESCRIPTION_WORDS]) -> CellDescription {
+    let [kind, subaddress, is_read, scheme, pointer, start, size, faults] = *words;
+    CellDescription {
+        kind: match kind {
+            0 => Kind::Receive,
+            1 => Kind::Transmit,
+            _ => Kind::Broadcast,
+        },
+        subaddress,
+        is_read: is_read != 0,
+        scheme: match scheme {
+            1 => Scheme::Single,
+            2 => Scheme::Double,
+            _ => Scheme::Circular(size),
+        },
+        pointer,
+        window: run(start, size),
+        faults,
+    }
+}
+
+fn stack_description_words(stack: &StackDescription) -> [u16; STACK_DESCRIPTION_WORDS] {
+    let (start, size) = (stack.block.start as u16, stack.block.len() as u16);
+    [stack.pointer, start, size, stack.faults]
+}
+
+pub fn stack_description_of(words: &[u16; STACK_DESCRIPTION_WORDS]) -> StackDescription {
+    let [pointer, start, size, faults] = *words;
+    StackDescription {
+        pointer,
+        block: run(start, size),
+        faults,
+    }
+}
+
+fn run(start: u16, size: u16) -> Range<usize> {
+    let start = usize::from(start);
+    start..start + usize::from(size)
 }

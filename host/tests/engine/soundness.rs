@@ -4,6 +4,7 @@ use plain_terminal::engine;
 use plain_terminal::front::soundness::{cell_faults, stack_faults};
 use plain_terminal::random::Random;
 use plain_terminal::terminal::cells::{cells_read, meet, Cell};
+use plain_terminal::terminal::described::{describe_cell, describe_stack};
 use plain_terminal::terminal::Settings;
 
 /// Any image, most of it sound, with pointers at the edges of all areas.
@@ -40,6 +41,12 @@ fn reasons_are_given_where_something_is_unsound() {
         let (number, lowest) = engine::check_area(&ram, &settings);
         numbers[usize::from(number)] += 1;
         assert_eq!(stack_faults(&ram, &settings).is_empty(), number != 8);
+        let stack = engine::describe_stack(&ram, &settings);
+        assert_eq!(stack, describe_stack(&ram, &settings));
+        for number in 0..96 {
+            let cell = engine::describe_cell(&ram, &settings, number);
+            assert_eq!(cell, describe_cell(&ram, &settings, number), "{number}");
+        }
         let label = match engine::label_area(&ram, &settings) {
             Ok(label) => label,
             Err(refused) => {

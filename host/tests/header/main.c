@@ -218,6 +218,48 @@ static void refused_labels(void)
     assert(label_area(SOLKVERVA_RAM_WORDS) == SOLKVERVA_UNSOUND_STACK);
 }
 
+static uint16_t description[SOLKVERVA_CELL_DESCRIPTION_WORDS + 1];
+
+static uint16_t describe_cell(size_t ram_words, uint16_t cell)
+{
+    memset(description, 0xEE, sizeof description);
+    return solkverva_describe_cell(ram, ram_words, settings, SOLKVERVA_SETTINGS_WORDS, cell, description,
+                                   SOLKVERVA_CELL_DESCRIPTION_WORDS + 1);
+}
+
+static uint16_t describe_stack(size_t ram_words)
+{
+    memset(description, 0xEE, sizeof description);
+    return solkverva_describe_stack(ram, ram_words, settings, SOLKVERVA_SETTINGS_WORDS, description,
+                                    SOLKVERVA_STACK_DESCRIPTION_WORDS + 1);
+}
+
+/* Receive cell 3 is a circle, cell 1 lies in the stack, and broadcast cell 4 is double and not read. */
+static void what_they_are_like(void)
+{
+    const uint16_t three[9] = {0, 3, 1, 3, 0x047E, 0x0400, 128, 0, UNTOUCHED};
+    const uint16_t one[9] = {0, 1, 1, 1, 0, 0, 32, SOLKVERVA_CELL_MEETS_STACK, UNTOUCHED};
+    const uint16_t four[9] = {2, 4, 0, 2, 0x02F1, 0x02C0, 64, SOLKVERVA_CELL_DOUBLE_OFF, UNTOUCHED};
+    const uint16_t nothing[9] = {0, 0, 0, 0, 0, 0, 0, 0, UNTOUCHED};
+    const uint16_t stack[5] = {0, 0, 256, 0, UNTOUCHED};
+    const uint16_t faults = SOLKVERVA_STACK_POINTER_OFF | SOLKVERVA_STACK_MEETS_HIGH_AREA;
+    const uint16_t off[5] = {0x0302, 0x0300, 256, faults, UNTOUCHED};
+
+    start();
+    ram[0x0184] = 0x02F1;
+    ram[0x01A4] = 0x8000;
+    assert(describe_cell(SOLKVERVA_RAM_WORDS, 3) == SOLKVERVA_DONE && memcmp(description, three, sizeof three) == 0);
+    assert(describe_cell(SOLKVERVA_RAM_WORDS, 1) == SOLKVERVA_DONE && memcmp(description, one, sizeof one) == 0);
+    assert(describe_cell(SOLKVERVA_RAM_WORDS, 68) == SOLKVERVA_DONE && memcmp(description, four, sizeof four) == 0);
+    assert(describe_cell(SOLKVERVA_RAM_WORDS - 1, 3) == SOLKVERVA_RAM_LENGTH);
+    assert(memcmp(description, nothing, sizeof nothing) == 0);
+    assert(describe_stack(SOLKVERVA_RAM_WORDS) == SOLKVERVA_DONE && memcmp(description, stack, sizeof stack) == 0);
+    ram[0x0100] = 0x0302;
+    assert(describe_stack(SOLKVERVA_RAM_WORDS) == SOLKVERVA_DONE && memcmp(description, off, sizeof off) == 0);
+    assert(describe_stack(SOLKVERVA_RAM_WORDS - 1) == SOLKVERVA_RAM_LENGTH);
+    assert(memcmp(description, nothing, 4 * sizeof nothing[0]) == 0 && description[4] == UNTOUCHED);
+}
+
 static uint64_t numbers[SOLKVERVA_RAM_WORDS];
 static uint16_t marks[SOLKVERVA_RAM_WORDS];
 static uint64_t records;
@@ -275,6 +317,8 @@ static void nothing_lent(void)
     assert(solkverva_message(NULL, 0, NULL, 0, NULL, 0, NULL, 0, NULL, 0, NULL, 0) == SOLKVERVA_RAM_LENGTH);
     assert(solkverva_label_cell(ram, SOLKVERVA_RAM_WORDS, settings, 4, 3, NULL, 0) == SOLKVERVA_DONE);
     assert(solkverva_label_area(ram, SOLKVERVA_RAM_WORDS, settings, 4, NULL, 0, NULL, 0, NULL, 0) == SOLKVERVA_DONE);
+    assert(solkverva_describe_cell(ram, SOLKVERVA_RAM_WORDS, settings, 4, 3, NULL, 0) == SOLKVERVA_DONE);
+    assert(solkverva_describe_stack(ram, SOLKVERVA_RAM_WORDS, settings, 4, NULL, 0) == SOLKVERVA_DONE);
     assert(solkverva_who_fill(ram, SOLKVERVA_RAM_WORDS, NULL, 0, NULL, 0, settings, 4, NULL, 0, NULL, 0, bytes,
                               sizeof bytes) == SOLKVERVA_DONE);
     assert(ram[0x0100] == 12);
@@ -293,6 +337,7 @@ int main(void)
     the_whole_area();
     the_labels();
     refused_labels();
+    what_they_are_like();
     who_put_a_word_there();
     nothing_lent();
     return 0;

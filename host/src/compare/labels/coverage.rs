@@ -5,6 +5,7 @@ use super::{cell_numbers, Answers};
 use crate::compare::classes;
 use crate::terminal::boundary::PAIRS_WORDS;
 use crate::terminal::cells::{cells_read, meet, Cell, Kind, Scheme, Stack, FIXED_AREAS, RAM_WORDS};
+use crate::terminal::described::{describe_cell, describe_stack, stack_fault};
 use crate::terminal::refusal;
 use crate::terminal::Settings;
 
@@ -53,6 +54,11 @@ classes! {
     PastEnd "cells unsound, past the end of RAM",
     OnFixed "cells unsound, on a fixed area",
     OnStack "cells unsound, on the stack",
+    Unread "cells described that are not read",
+    TwoFaults "cells described with two faults",
+    StackOff "stacks described, pointer no multiple of 4",
+    StackOver "stacks described, pointer over 0FFC",
+    StackFixed "stacks described, on a fixed area",
     DoubleOff "cells unsound, double and no multiple of 32",
     Alone "cells that share with none",
     WithAll "cells that share with all 89 others",
@@ -74,6 +80,7 @@ impl Coverage {
         for (cell, (number, _)) in cell_numbers().zip(&answers.cells) {
             self.take_in_cell(&asked.settings, cell, *number);
         }
+        self.take_in_descriptions(asked);
         if answers.area == 0 {
             self.note(AreaListed, true);
             self.take_in_settings(&asked.settings);
@@ -95,6 +102,23 @@ impl Coverage {
                 _ => Cell9Unsound,
             };
             self.note(class, true);
+        }
+    }
+
+    fn take_in_descriptions(&mut self, asked: &Asked) {
+        use Class::*;
+        let ram = &asked.ram[..asked.ram_words];
+        for number in cell_numbers() {
+            if let Ok(cell) = describe_cell(ram, &asked.settings, number) {
+                self.note(Unread, !cell.is_read);
+                self.note(TwoFaults, cell.is_read && cell.faults.count_ones() == 2);
+            }
+        }
+        if let Ok(stack) = describe_stack(ram, &asked.settings) {
+            let fixed = stack_fault::LOW_AREA | stack_fault::HIGH_AREA;
+            self.note(StackOff, stack.faults & stack_fault::POINTER_OFF != 0);
+            self.note(StackOver, stack.faults & stack_fault::POINTER_OVER != 0);
+            self.note(StackFixed, stack.faults & fixed != 0);
         }
     }
 

@@ -4,7 +4,9 @@
 
 use crate::compare::case::{GUARD, GUARD_WORDS};
 use crate::random::Random;
-use crate::terminal::boundary::{COUNTS_WORDS, LISTING_WORDS, PAIRS_WORDS, UNSOUND_WORDS};
+use crate::terminal::boundary::{
+    CELL_DESCRIPTION_WORDS, COUNTS_WORDS, LISTING_WORDS, PAIRS_WORDS, UNSOUND_WORDS,
+};
 use crate::terminal::cells::{
     control_place, lookup_place, stack_pointer_place, Cell, Kind, Stack, RAM_WORDS,
 };
@@ -26,6 +28,7 @@ pub struct Asked {
     pub unsound_room: usize,
     pub pairs_room: usize,
     pub listing_room: usize,
+    pub description_room: usize,
 }
 
 impl Asked {
@@ -40,6 +43,7 @@ impl Asked {
             unsound_room: room(random, UNSOUND_WORDS),
             pairs_room: room(random, PAIRS_WORDS),
             listing_room: room(random, LISTING_WORDS),
+            description_room: room(random, CELL_DESCRIPTION_WORDS),
         };
         if random.chance(2) {
             asked.ram[..RAM_WORDS].fill_with(|| random.word());

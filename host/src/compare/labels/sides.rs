@@ -1,21 +1,27 @@
-//! The sides of a comparison of labels: the functions of the header, over
-//! slices, and errors to be planted in them.
+//! The sides of a comparison of labels and descriptions: the functions of the
+//! header, over slices, and errors to be planted in them.
 
 use crate::terminal::boundary as plain;
 
 type CellLabel = fn(&[u16], &[u16], u16, &mut [u16]) -> u16;
 type AreaLabel = fn(&[u16], &[u16], &mut [u16], &mut [u16], &mut [u16]) -> u16;
+type CellDescription = fn(&[u16], &[u16], u16, &mut [u16]) -> u16;
+type StackDescription = fn(&[u16], &[u16], &mut [u16]) -> u16;
 
 #[derive(Clone, Copy)]
 pub struct LabelSide {
     pub cell: CellLabel,
     pub area: AreaLabel,
+    pub described_cell: CellDescription,
+    pub described_stack: StackDescription,
 }
 
 /// This package's labels.
 pub const PLAIN: LabelSide = LabelSide {
     cell: plain::label_cell,
     area: plain::label_area,
+    described_cell: plain::describe_cell,
+    described_stack: plain::describe_stack,
 };
 
 /// The proved terminal's.
@@ -23,6 +29,8 @@ pub const PLAIN: LabelSide = LabelSide {
 pub const PROVED: LabelSide = LabelSide {
     cell: crate::engine::boundary::label_cell,
     area: crate::engine::boundary::label_area,
+    described_cell: crate::engine::boundary::describe_cell,
+    described_stack: crate::engine::boundary::describe_stack,
 };
 
 /// This package's labels, always with this word in the settings.
@@ -36,12 +44,13 @@ macro_rules! setting {
                 let settings = with(settings, $place, $word);
                 plain::label_area(ram, &settings, counts, unsound, pairs)
             },
+            ..PLAIN
         }
     };
 }
 
 /// Errors by name: this package's labels, each wrong in one way.
-pub const ERRORS: [(&str, LabelSide); 4] = [
+pub const ERRORS: [(&str, LabelSide); 6] = [
     ("area-a-always", setting!(AREA, 0)),
     ("broadcast-always", setting!(SEPARATE, 1)),
     (
@@ -65,6 +74,33 @@ pub const ERRORS: [(&str, LabelSide); 4] = [
                 let listed = counts.get(1).copied().map_or(0, usize::from);
                 let pairs = pairs.iter_mut().take(listed);
                 pairs.for_each(|pair| *pair = pair.swap_bytes());
+                number
+            },
+            ..PLAIN
+        },
+    ),
+    (
+        "window-at-pointer",
+        LabelSide {
+            described_cell: |ram, settings, cell, description| {
+                let number = plain::describe_cell(ram, settings, cell, description);
+                if let [_, _, _, _, pointer, start, ..] = description {
+                    *start = *pointer;
+                }
+                number
+            },
+            ..PLAIN
+        },
+    ),
+    (
+        "one-fault-alone",
+        LabelSide {
+            described_stack: |ram, settings, description| {
+                let number = plain::describe_stack(ram, settings, description);
+                if let [_, _, _, faults, ..] = description {
+                    // The lowest bit that is set.
+                    *faults &= faults.wrapping_neg();
+                }
                 number
             },
             ..PLAIN

@@ -8,7 +8,6 @@ use super::html::{self, cell, escape, name};
 use crate::front::names::{addresses, bare_cell_name, cell_runs, count};
 use crate::front::say;
 use crate::front::soundness::stack_faults;
-use crate::terminal::cells::Stack;
 
 pub fn write_header(out: &mut dyn Write, title: &str, board: &Board) -> io::Result<()> {
     let settings = board.settings();
@@ -132,9 +131,11 @@ const KEY: &str = "<section class=\"key\">
 /// What the whole area shares, and what is unsound in it.
 pub fn write_area(out: &mut dyn Write, board: &Board) -> io::Result<()> {
     writeln!(out, "<section class=\"area\">\n<h2>The whole area</h2>")?;
-    let stack = addresses(&Stack::read(board.ram(), board.settings()).block);
     match board.check.0 {
-        0 => writeln!(out, "<p>The stack {stack} and every cell are sound.</p>")?,
+        0 => {
+            let stack = addresses(&board.history.replay.stack().block);
+            writeln!(out, "<p>The stack {stack} and every cell are sound.</p>")?;
+        }
         9 => {
             let cells = cell_runs(board.unsound());
             writeln!(out, "<p class=\"unsound\">Unsound: {cells}.</p>")?;

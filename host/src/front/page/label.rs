@@ -51,11 +51,11 @@ struct Group {
 
 /// An owned cell has a line of its own; others that can do the same share one.
 fn groups(board: &Board, cell: u16, sharers: Vec<Sharer>) -> Vec<Group> {
-    let window = board.history.replay.cell(cell).window();
+    let window = board.history.replay.cell(cell).window;
     let owned = |cell: u16| board.owners.of(subaddress_of(cell)).is_some();
     let mut groups: Vec<Group> = Vec::new();
     for Sharer { cell, writes } in sharers {
-        let other = board.history.replay.cell(cell).window();
+        let other = board.history.replay.cell(cell).window;
         let words = addresses(&(window.start.max(other.start)..window.end.min(other.end)));
         let fits = |group: &&mut Group| {
             let alike = group.writes == writes && group.words == words;

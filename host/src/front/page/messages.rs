@@ -6,7 +6,7 @@ use super::board::{Board, REFUSED_SHOWN};
 use super::html::{self, escape};
 use crate::front::names::{addresses, count};
 use crate::front::say;
-use crate::terminal::cells::Stack;
+use crate::terminal::described::StackDescription;
 use crate::terminal::writes::Part;
 
 /// How many entries are told.
@@ -37,11 +37,11 @@ pub fn write_stack(out: &mut dyn Write, board: &Board) -> io::Result<()> {
 
 /// Record and place of each entry, oldest first.
 fn last_entries(board: &Board) -> Vec<(u64, usize)> {
-    let Stack { pointer, block } = Stack::read(board.ram(), board.settings());
     let mut entries = Vec::new();
     if board.refused_area().is_some() {
         return entries;
     }
+    let StackDescription { pointer, block, .. } = board.history.replay.stack();
     let mut place = usize::from(pointer);
     while entries.len() < SHOWN.min(block.len() / ENTRY_WORDS) {
         if place == block.start {

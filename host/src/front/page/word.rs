@@ -52,7 +52,7 @@ pub fn window_words(board: &Board, cell: u16) -> Vec<Word> {
             is_sent: sent.contains(&address),
         }
     };
-    view.window().map(word).collect()
+    view.window.clone().map(word).collect()
 }
 
 fn mark(

@@ -1,71 +1,77 @@
--- `store_words` meets its contract. The loop's invariant: the first `k` writes are made.
+-- `store_words` meets its contract: two runs are the walk around the window, and word by word it is the walk itself.
 use borrow.Author.Needs.{needs}
 use native.Mathlib.Omega.{arith}
-use Prim.Native.Nat.{_≤_, _-_}
-use mathlib.Core.Path.{_≡_, refl}
-use Rattle.carry.specs.Writes.{dataWrites}
-use Rattle.memory.specs.Writes.{applyWrites, writesTo}
-use Rattle.memory.proofs.Writes.{apply-more, length-apply}
+use lib.ListN.{length}
+use borrow.Author.Tests.{leb-true}
+use Rattle.carry.proofs.TwoRuns.{goes-once-says, two-runs, stored-in-runs}
 use Rattle.carry.proofs.carry.store_words.Statement.{statement}
 use Rattle.carry.proofs.carry.store_words.Tie as tie
 
-abbrev Inv-loop : tie.InvT-loop
-Inv-loop ram₀ w n words k₀ ram k = (k ≤ n) × (ram ≡ applyWrites (dataWrites w words k) ram₀)
+goes-once-requires : tie.Need-goes-once-requires
+goes-once-requires c κs = search needs
 
-abbrev μ-loop : tie.MeasureT-loop
-μ-loop ram₀ w n words k₀ ram k = n - k
+both-requires : tie.Need-both-requires
+both-requires c κs = search needs
 
-loop-holds : tie.Need-loop-holds Inv-loop μ-loop
-unfolding applyWrites writesTo
-loop-holds c = (omega arith, refl)
+runs-of-requires : tie.Need-runs-of-requires
+runs-of-requires c κs =
+    let s = goes-once-says _ _ _ _ _ _ (c .before .before .goes-once .ensures) (c .before .both .ensures) (c .if1 .taken) in
+    omega (arith, s .0 .inside)
 
-place-requires : tie.Need-place-requires Inv-loop μ-loop
-place-requires c κs = search needs
+copy-run-requires : tie.Need-copy-run-requires
+copy-run-requires c κs =
+    let b = c .before in
+    let t = b .before in
+    let a = t .before .before .before .before .before .args in
+    let s = goes-once-says _ _ _ _ _ _ (t .before .before .goes-once .ensures) (t .before .both .ensures) (t .if1 .taken) in
+    let g = two-runs (a .w) (a .n) _ (s .0 .inside) (s .0 .few) (b .runs-of .ensures) in
+    let r = leb-true (a .n) (length (a .words .now)) (s .1) in
+    (omega (arith, s .0 .fits, g .first-end), omega (arith, r, g .all))
 
-slice-aggregate-word-at : tie.Need-slice-aggregate-word-at Inv-loop μ-loop
-slice-aggregate-word-at c = search needs
+copy-run-requires-2 : tie.Need-copy-run-requires-2
+copy-run-requires-2 c κs =
+    let b = c .before .before .before .before .before in
+    let t = b .before in
+    let a = t .before .before .before .before .before .args in
+    let s = goes-once-says _ _ _ _ _ _ (t .before .before .goes-once .ensures) (t .before .both .ensures) (t .if1 .taken) in
+    let g = two-runs (a .w) (a .n) _ (s .0 .inside) (s .0 .few) (b .runs-of .ensures) in
+    let r = leb-true (a .n) (length (a .words .now)) (s .1) in
+    (omega (arith, s .0 .fits, g .second-end), omega (arith, r, g .all))
 
-cast-word-at : tie.Need-cast-word-at Inv-loop μ-loop
-cast-word-at c = search needs
+store-each-requires : tie.Need-store-each-requires
+store-each-requires c κs = search needs
 
-word-at-requires : tie.Need-word-at-requires Inv-loop μ-loop
-word-at-requires c κs = search needs
+same-length : tie.Need-same-length
+same-length c = search needs
 
-put-requires : tie.Need-put-requires Inv-loop μ-loop
-put-requires c κs = search needs
+returns : tie.Need-returns
+returns c =
+    let second = c .before .before in
+    let first = second .before .before .before .before in
+    let b = first .before .before in
+    let t = b .before in
+    let a = t .before .before .before .before .before .args in
+    let s = goes-once-says _ _ _ _ _ _ (t .before .before .goes-once .ensures) (t .before .both .ensures) (t .if1 .taken) in
+    let g = two-runs (a .w) (a .n) _ (s .0 .inside) (s .0 .few) (b .runs-of .ensures) in
+    stored-in-runs (a .w) (a .n) _ g (a .words .now) (a .ram .now) _ _ (first .copy-run .ensures) (second .copy-run2 .ensures)
 
-add-k : tie.Need-add-k Inv-loop μ-loop
-add-k c = search needs
+same-length-2 : tie.Need-same-length-2
+same-length-2 c = search needs
 
-loop-less : tie.Need-loop-less Inv-loop μ-loop
-loop-less c = search needs
-
-loop-again : tie.Need-loop-again Inv-loop μ-loop
-loop-again c = let p = c .before .before in
-    let q = p .before .before .before in
-    let l = q .before .before .before .loop in
-    (omega arith, rw (apply-more, p .put .ensures, p .before .word-at .ensures, q .place .ensures, l .inv .1))
-
-same-length : tie.Need-same-length Inv-loop μ-loop
-same-length c = rw (c .before .loop .inv .1, length-apply)
-
-returns : tie.Need-returns Inv-loop μ-loop
-returns c = let e : c .before .loop .k ≡ c .before .before .before .args .n = omega arith in rw e at (c .before .loop .inv .1)
+returns-2 : tie.Need-returns-2
+returns-2 c = search needs
 
 pub store-words-spec : {M : Type 1} → statement M
 store-words-spec =
     tie.close
     (tie.spec
-    Inv-loop
-    μ-loop
-    loop-holds
-    place-requires
-    slice-aggregate-word-at
-    cast-word-at
-    word-at-requires
-    put-requires
-    add-k
-    loop-less
-    loop-again
+    goes-once-requires
+    both-requires
+    runs-of-requires
+    copy-run-requires
+    copy-run-requires-2
+    store-each-requires
     same-length
-    returns)
+    returns
+    same-length-2
+    returns-2)

@@ -10,6 +10,9 @@ signals-of-requires c κs = search needs
 bus-b-requires : tie.Need-bus-b-requires
 bus-b-requires c κs = search needs
 
+is-transfer-requires : tie.Need-is-transfer-requires
+is-transfer-requires c κs = search needs
+
 block-status-requires : tie.Need-block-status-requires
 block-status-requires c κs = search needs
 
@@ -29,8 +32,9 @@ returns c = rw (
   c .before .no .ensures,
   c .before .before .status-word .ensures,
   c .before .before .before .block-status .ensures,
-  c .before .before .before .before .bus-b .ensures,
-  c .before .before .before .before .before .signals-of .ensures,
+  c .before .before .before .before .is-transfer .ensures,
+  c .before .before .before .before .before .bus-b .ensures,
+  c .before .before .before .before .before .before .signals-of .ensures,
 )
 
 pub deed-with-spec : {M : Type 1} → statement M
@@ -39,6 +43,7 @@ deed-with-spec =
     (tie.spec
     signals-of-requires
     bus-b-requires
+    is-transfer-requires
     block-status-requires
     status-word-requires
     no-requires

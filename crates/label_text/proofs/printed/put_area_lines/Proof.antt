@@ -45,7 +45,8 @@ unfolding linesOf
 returns c =
     let unsound = c .before .before .before .before .before .before .before .before in
     let pairs = unsound .before .before .before .before .before .before .before in
-    put-then (put-then (pairs .put-pairs .ensures) (unsound .put-unsound .ensures)) (c .before .before .put-named .ensures)
+    put-then (put-then (pairs .put-pairs .ensures) (unsound .put-unsound .ensures))
+    (c .before .before .put-named .ensures)
 
 pub put-area-lines-spec : {M : Type 1} → statement M
 put-area-lines-spec =

@@ -22,7 +22,9 @@ same-length c = search needs
 
 returns : tie.Need-returns
 unfolding cellLinesOf
-returns c = put-then (c .before .before .before .before .before .before .before .before .put-sharers .ensures) (c .before .before .put-named .ensures)
+returns c =
+    put-then (c .before .before .before .before .before .before .before .before .put-sharers .ensures)
+    (c .before .before .put-named .ensures)
 
 pub put-cell-lines-spec : {M : Type 1} → statement M
 put-cell-lines-spec =

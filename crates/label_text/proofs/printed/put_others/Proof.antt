@@ -1,7 +1,7 @@
 -- `put_others` meets its contract. The loop's invariant: the first `i` cells are named.
 use borrow.Author.Needs.{needs}
 use denote.Ref.{now}
-use Prim.Native.Nat.{_+_, _-_, _*_, _≤_}
+use Prim.Native.Nat.{_-_, _≤_}
 use mathlib.Core.List.{flatMap}
 use lib.ListN.{length, take}
 use native.Mathlib.Omega.{arith}
@@ -13,7 +13,8 @@ use Rattle.label_text.proofs.printed.put_others.Statement.{statement}
 use Rattle.label_text.proofs.printed.put_others.Tie as tie
 
 abbrev Inv-loop : tie.InvT-loop
-Inv-loop out₀ at others next₀ i₀ t7 out next i = (i ≤ length others) × Put out₀ at (flatMap alsoText (take i others)) out next
+Inv-loop out₀ at others next₀ i₀ t7 out next i =
+    (i ≤ length others) × Put out₀ at (flatMap alsoText (take i others)) out next
 
 abbrev μ-loop : tie.MeasureT-loop
 μ-loop out₀ at others next₀ i₀ t7 out next i = length others - i
@@ -58,7 +59,9 @@ same-length c = put-kept (c .before .loop .inv .1)
 
 returns : tie.Need-returns Inv-loop μ-loop
 returns c =
-    all-lines alsoText (c .before .before .before .before .args .others .now) (c .before .loop .i) _ _ _ _ (c .before .loop .inv .1) (omega arith)
+    all-lines alsoText (c .before .before .before .before .args .others .now) (c .before .loop .i) _ _ _ _
+    (c .before .loop .inv .1)
+    (omega arith)
 
 pub put-others-spec : {M : Type 1} → statement M
 put-others-spec =

@@ -1,7 +1,7 @@
 -- `put_pairs` meets its contract. The loop's invariant: the lines of the first `i` pairs stand in the buffer.
 use borrow.Author.Needs.{needs}
 use denote.Ref.{now}
-use Prim.Native.Nat.{_+_, _-_, _*_, _≤_}
+use Prim.Native.Nat.{_-_, _≤_}
 use mathlib.Core.List.{flatMap}
 use lib.ListN.{length, take}
 use native.Mathlib.Omega.{arith}
@@ -46,7 +46,8 @@ loop-again c =
     let put = c .before .before in
     let second = put .before in
     let at = second .before .before .before .before .before in
-    let line = rw (second .sharer-numbered2 .ensures, second .before .sharer-numbered .ensures) at (put .put-meeting .ensures) in (
+    let line =
+    rw (second .sharer-numbered2 .ensures, second .before .sharer-numbered .ensures) at (put .put-meeting .ensures) in (
       omega arith,
       put-line wordLine _ (at .loop .i) 0 _ _ _ _ _ _ (omega arith) (at .loop .inv .1) line,
     )
@@ -56,7 +57,9 @@ same-length c = put-kept (c .before .loop .inv .1)
 
 returns : tie.Need-returns Inv-loop μ-loop
 returns c =
-    all-lines wordLine (c .before .before .before .before .args .pairs .now) (c .before .loop .i) _ _ _ _ (c .before .loop .inv .1) (omega arith)
+    all-lines wordLine (c .before .before .before .before .args .pairs .now) (c .before .loop .i) _ _ _ _
+    (c .before .loop .inv .1)
+    (omega arith)
 
 pub put-pairs-spec : {M : Type 1} → statement M
 put-pairs-spec =

@@ -1,7 +1,7 @@
 -- `put_sharers` meets its contract. The loop's invariant: the lines of the first `i` cells stand in the buffer.
 use borrow.Author.Needs.{needs}
 use native.Mathlib.Omega.{arith}
-use Prim.Native.Nat.{_-_, _*_, _≤_}
+use Prim.Native.Nat.{_-_, _≤_}
 use mathlib.Core.Path.{_≡_}
 use mathlib.Core.List.{flatMap}
 use lib.ListN.{take}
@@ -13,7 +13,8 @@ use Rattle.label_text.proofs.printed.put_sharers.Statement.{statement}
 use Rattle.label_text.proofs.printed.put_sharers.Tie as tie
 
 abbrev Inv-loop : tie.InvT-loop
-Inv-loop out₀ cell label own next₀ i₀ out next i = (i ≤ label .count) × Put out₀ 0 (flatMap (meetLine own) (take i (label .cells))) out next
+Inv-loop out₀ cell label own next₀ i₀ out next i =
+    (i ≤ label .count) × Put out₀ 0 (flatMap (meetLine own) (take i (label .cells))) out next
 
 abbrev μ-loop : tie.MeasureT-loop
 μ-loop out₀ cell label own next₀ i₀ out next i = label .count - i
@@ -47,7 +48,10 @@ loop-again c =
     let put = c .before .before in
     let at = put .before .before .before .before in (
       omega arith,
-      put-line (meetLine _) (at .before .before .before .args .t3 .cells) (at .loop .i) noSharer _ _ _ _ _ _ (omega (arith, at .before .before .before .pre .there)) (at .loop .inv .1) (put .put-meeting .ensures),
+      put-line (meetLine _) (at .before .before .before .args .t3 .cells) (at .loop .i) noSharer _ _ _ _ _ _
+          (omega (arith, at .before .before .before .pre .there))
+          (at .loop .inv .1)
+          (put .put-meeting .ensures),
     )
 
 same-length : tie.Need-same-length Inv-loop μ-loop

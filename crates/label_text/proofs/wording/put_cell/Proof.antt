@@ -24,7 +24,8 @@ returns : tie.Need-returns
 unfolding cellText
 returns c =
     let kind = c .before .before .before .before .before .before in
-    rw (← (kind .before .kind-numbered .ensures)) (put-then (kind .put-kind .ensures) (c .before .before .put-number .ensures))
+    rw (← (kind .before .kind-numbered .ensures))
+    (put-then (kind .put-kind .ensures) (c .before .before .put-number .ensures))
 
 pub put-cell-spec : {M : Type 1} → statement M
 put-cell-spec =

@@ -40,13 +40,15 @@ same-length-2 : tie.Need-same-length-2
 same-length-2 c = search needs
 
 returns-2 : tie.Need-returns-2
-returns-2 c = rw (c .before .before .before .before .before .enum-told2 .given .1) (c .before .before .put-bytes2 .ensures)
+returns-2 c =
+    rw (c .before .before .before .before .before .enum-told2 .given .1) (c .before .before .put-bytes2 .ensures)
 
 same-length-3 : tie.Need-same-length-3
 same-length-3 c = search needs
 
 returns-3 : tie.Need-returns-3
-returns-3 c = rw (c .before .before .before .before .before .enum-told3 .given .1) (c .before .before .put-bytes3 .ensures)
+returns-3 c =
+    rw (c .before .before .before .before .before .enum-told3 .given .1) (c .before .before .put-bytes3 .ensures)
 
 pub put-kind-spec : {M : Type 1} → statement M
 put-kind-spec =

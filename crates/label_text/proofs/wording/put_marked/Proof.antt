@@ -17,7 +17,8 @@ same-length c = search needs
 returns : tie.Need-returns
 unfolding markedText
 returns c =
-    put-then (c .before .before .before .before .before .before .put-cell .ensures) (c .before .before .put-mark .ensures)
+    put-then (c .before .before .before .before .before .before .put-cell .ensures)
+    (c .before .before .put-mark .ensures)
 
 pub put-marked-spec : {M : Type 1} → statement M
 put-marked-spec = tie.close (tie.spec put-cell-requires put-mark-requires same-length returns)

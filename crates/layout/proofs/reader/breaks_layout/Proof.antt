@@ -4,8 +4,8 @@ use Rattle.layout.specs.Layout.{breaksLayout}
 use Rattle.layout.proofs.reader.breaks_layout.Statement.{statement}
 use Rattle.layout.proofs.reader.breaks_layout.Tie as tie
 
-gaps-zero-requires : tie.Need-gaps-zero-requires
-gaps-zero-requires c κs = search needs
+are-zero-requires : tie.Need-are-zero-requires
+are-zero-requires c κs = search needs
 
 keeps-layout-requires : tie.Need-keeps-layout-requires
 keeps-layout-requires c κs = search needs
@@ -19,15 +19,14 @@ no-requires c κs = search needs
 returns : tie.Need-returns
 unfolding breaksLayout
 returns c =
-    let k = c .before .before .before in
     rw (
       c .no .ensures,
       c .before .both .ensures,
       c .before .before .keeps-layout .ensures,
-      k .gaps-zero .ensures,
-      k .before .before .pre .1,
+      c .before .before .before .are-zero .ensures,
+      c .before .before .before .before .before .pre .1,
     )
 
 pub breaks-layout-spec : {M : Type 1} → statement M
 breaks-layout-spec =
-    tie.close (tie.spec gaps-zero-requires keeps-layout-requires both-requires no-requires returns)
+    tie.close (tie.spec are-zero-requires keeps-layout-requires both-requires no-requires returns)

@@ -13,19 +13,23 @@ word-at-requires c κs = search needs
 word-at-requires-2 : tie.Need-word-at-requires-2
 word-at-requires-2 c κs = search needs
 
-shared-slice-read-t6 : tie.Need-shared-slice-read-t6
-shared-slice-read-t6 c = search needs
+word-at-requires-3 : tie.Need-word-at-requires-3
+word-at-requires-3 c κs = search needs
 
-shared-slice-read-t8 : tie.Need-shared-slice-read-t8
-shared-slice-read-t8 c = search needs
+shared-slice-read-t7 : tie.Need-shared-slice-read-t7
+shared-slice-read-t7 c = search needs
+
+shared-slice-read-t9 : tie.Need-shared-slice-read-t9
+shared-slice-read-t9 c = search needs
 
 returns : tie.Need-returns
 unfolding valueIn
 returns c =
     rw (
-      c .before .before .word-at2 .ensures,
-      c .before .before .before .word-at .ensures,
-      c .before .before .before .before .words-in .ensures,
+      c .before .before .word-at3 .ensures,
+      c .before .before .before .word-at2 .ensures,
+      c .before .before .before .before .word-at .ensures,
+      c .before .before .before .before .before .words-in .ensures,
     )
 
 pub value-in-spec : {M : Type 1} → statement M
@@ -35,6 +39,7 @@ value-in-spec =
     words-in-requires
     word-at-requires
     word-at-requires-2
-    shared-slice-read-t6
-    shared-slice-read-t8
+    word-at-requires-3
+    shared-slice-read-t7
+    shared-slice-read-t9
     returns)

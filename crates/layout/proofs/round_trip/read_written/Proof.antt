@@ -28,6 +28,7 @@ typed : (c : tie.Start) → Typed (c .args .v)
 typed c =
     record {
       command = omega arith;
+      second = omega arith;
       tag = omega arith;
       flags = omega arith;
       count = omega arith;

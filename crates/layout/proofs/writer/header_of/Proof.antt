@@ -32,16 +32,28 @@ cast-bytes-4 c = search needs
 array-write-bytes-4 : tie.Need-array-write-bytes-4
 array-write-bytes-4 c = search needs
 
+cast-bytes-5 : tie.Need-cast-bytes-5
+cast-bytes-5 c = search needs
+
 array-write-bytes-5 : tie.Need-array-write-bytes-5
 array-write-bytes-5 c = search needs
+
+cast-bytes-6 : tie.Need-cast-bytes-6
+cast-bytes-6 c = search needs
 
 array-write-bytes-6 : tie.Need-array-write-bytes-6
 array-write-bytes-6 c = search needs
 
+array-write-bytes-7 : tie.Need-array-write-bytes-7
+array-write-bytes-7 c = search needs
+
+array-write-bytes-8 : tie.Need-array-write-bytes-8
+array-write-bytes-8 c = search needs
+
 returns : tie.Need-returns
 unfolding headerOf headerFields putFields putNumber
 returns c =
-    let v = c .before .before .before .before .args .v in
+    let v = c .before .before .before .before .before .before .args .v in
     let flags : v .flags % 256 ≡ v .flags = omega arith in
     let count : v .count % 256 ≡ v .count = omega arith in
     rw (flags, count)
@@ -58,6 +70,10 @@ header-of-spec =
     array-write-bytes-3
     cast-bytes-4
     array-write-bytes-4
+    cast-bytes-5
     array-write-bytes-5
+    cast-bytes-6
     array-write-bytes-6
+    array-write-bytes-7
+    array-write-bytes-8
     returns)

@@ -19,15 +19,19 @@ word-at-requires c κs = search needs
 word-at-requires-2 : tie.Need-word-at-requires-2
 word-at-requires-2 c κs = search needs
 
+word-at-requires-3 : tie.Need-word-at-requires-3
+word-at-requires-3 c κs = search needs
+
 returns : tie.Need-returns
 unfolding valueFrom
 returns c =
     rw (
-      c .word-at2 .ensures,
-      c .before .word-at .ensures,
-      c .before .before .capped-at2 .ensures,
-      c .before .before .before .capped-at .ensures,
-      c .before .before .before .before .words-from .ensures,
+      c .word-at3 .ensures,
+      c .before .word-at2 .ensures,
+      c .before .before .word-at .ensures,
+      c .before .before .before .capped-at2 .ensures,
+      c .before .before .before .before .capped-at .ensures,
+      c .before .before .before .before .before .words-from .ensures,
     )
 
 pub value-from-spec : {M : Type 1} → statement M
@@ -39,4 +43,5 @@ value-from-spec =
     capped-at-requires-2
     word-at-requires
     word-at-requires-2
+    word-at-requires-3
     returns)

@@ -32,11 +32,19 @@ same-length c = search needs
 returns : tie.Need-returns
 unfolding acceptedLine
 returns c =
+    let end = c .before .before in
+    let interrupt = end .before .before .before .before in
+    let sent = interrupt .before .before .before .before in
+    let status = sent .before .before .before .before .before in
+    let words = status .before .before .before .before in
+    let start = words .before .before .before .before in
     put-then
     (put-then
-    (put-then (put-then (put-then (c .before .before .before .before .before .before .before .before .before .before .before .before .before .before .before .before .before .before .before .before .before .before .before .put-start .ensures) (c .before .before .before .before .before .before .before .before .before .before .before .before .before .before .before .before .before .before .before .put-three .ensures)) (c .before .before .before .before .before .before .before .before .before .before .before .before .before .before .before .put-status .ensures)) (c .before .before .before .before .before .before .before .before .before .before .put-number .ensures))
-    (c .before .before .before .before .before .before .put-word .ensures))
-    (c .before .before .put-newline .ensures)
+    (put-then
+    (put-then (put-then (start .put-start .ensures) (words .put-three .ensures)) (status .put-status .ensures))
+    (sent .put-number .ensures))
+    (interrupt .put-word .ensures))
+    (end .put-newline .ensures)
 
 pub put-accepted-spec : {M : Type 1} → statement M
 put-accepted-spec =

@@ -19,7 +19,10 @@ same-length c = search needs
 
 returns : tie.Need-returns
 unfolding namedLine
-returns c = put-then (put-then (c .before .before .before .before .before .before .before .before .before .before .put-bytes .ensures) (c .before .before .before .before .before .before .put-number .ensures)) (c .before .before .put-newline .ensures)
+returns c =
+    let number = c .before .before .before .before .before .before in
+    let name = number .before .before .before .before in
+    put-then (put-then (name .put-bytes .ensures) (number .put-number .ensures)) (c .before .before .put-newline .ensures)
 
 pub put-named-spec : {M : Type 1} → statement M
 put-named-spec =

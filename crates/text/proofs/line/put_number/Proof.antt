@@ -19,7 +19,8 @@ after-requires c κs = search needs
 returns : tie.Need-returns
 returns c =
     let far = c .before in
-    put-out (omega arith) (far .if1 .taken) (rw (length-decimal, ← (far .before .places .ensures .0)) (omega (arith, c .after .ensures)))
+    put-out (omega arith) (far .if1 .taken)
+    (rw (length-decimal, ← (far .before .places .ensures .0)) (omega (arith, c .after .ensures)))
 
 put-byte-requires : tie.Need-put-byte-requires
 put-byte-requires c κs = search needs
@@ -46,7 +47,9 @@ returns-2 c =
     let space = digits .before .before .before .before in
     let counted = space .before .before .before .places in
     let k = counted .ensures .0 in
-    column-here (counted .result) (omega arith) (omega arith) (rw (length-digits, k)) (space .put-byte .ensures) (rw (digits .put-digits .ensures, k)) (omega arith)
+    column-here (counted .result) (omega arith) (omega arith) (rw (length-digits, k)) (space .put-byte .ensures)
+    (rw (digits .put-digits .ensures, k))
+    (omega arith)
 
 pub put-number-spec : {M : Type 1} → statement M
 put-number-spec =

@@ -16,7 +16,9 @@ same-length c = search needs
 
 returns : tie.Need-returns
 unfolding refusedLine
-returns c = put-then (c .before .before .before .before .before .before .put-start .ensures) (c .before .before .put-newline .ensures)
+returns c =
+    put-then (c .before .before .before .before .before .before .put-start .ensures)
+    (c .before .before .put-newline .ensures)
 
 pub put-refused-spec : {M : Type 1} → statement M
 put-refused-spec = tie.close (tie.spec put-start-requires put-newline-requires same-length returns)

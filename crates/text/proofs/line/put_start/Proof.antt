@@ -16,7 +16,9 @@ same-length c = search needs
 
 returns : tie.Need-returns
 unfolding startText
-returns c = put-then (c .before .before .before .before .before .before .put-decimal .ensures) (c .before .before .put-number .ensures)
+returns c =
+    put-then (c .before .before .before .before .before .before .put-decimal .ensures)
+    (c .before .before .put-number .ensures)
 
 pub put-start-spec : {M : Type 1} → statement M
 put-start-spec = tie.close (tie.spec put-decimal-requires put-number-requires same-length returns)

@@ -19,7 +19,11 @@ same-length c = search needs
 
 returns : tie.Need-returns
 unfolding threeWords
-returns c = put-then (put-then (c .before .before .before .before .before .before .before .before .before .before .put-word .ensures) (c .before .before .before .before .before .before .put-word2 .ensures)) (c .before .before .put-word3 .ensures)
+returns c =
+    let third = c .before .before in
+    let second = third .before .before .before .before in
+    let first = second .before .before .before .before in
+    put-then (put-then (first .put-word .ensures) (second .put-word2 .ensures)) (third .put-word3 .ensures)
 
 pub put-three-spec : {M : Type 1} → statement M
 put-three-spec =

@@ -28,7 +28,11 @@ same-length c = search needs
 
 returns-2 : tie.Need-returns-2
 returns-2 c =
-    column-here 4 (omega arith) (omega arith) (length-hex _) (c .before .before .before .before .before .before .put-byte .ensures) (c .before .before .put-hex .ensures) (omega arith)
+    let digits = c .before .before in
+    column-here 4 (omega arith) (omega arith) (length-hex _)
+    (digits .before .before .before .before .put-byte .ensures)
+    (digits .put-hex .ensures)
+    (omega arith)
 
 pub put-word-spec : {M : Type 1} → statement M
 put-word-spec =

@@ -43,7 +43,8 @@ loop-less c = search needs
 loop-again : tie.Need-loop-again Inv-loop μ-loop
 loop-again c =
     let t = c .before .before .before .before .before in
-    let h : t .before .loop .i < length (now (t .before .before .before .before .before .args .s)) = t .loop-test .taken in
+    let s = now (t .before .before .before .before .before .args .s) in
+    let h : t .before .loop .i < length s = t .loop-test .taken in
     (omega arith, rw (sets-more, c .before .before .put-byte .ensures, t .before .loop .inv .1))
 
 add-result : tie.Need-add-result Inv-loop μ-loop

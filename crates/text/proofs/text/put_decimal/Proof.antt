@@ -14,7 +14,9 @@ after-requires : tie.Need-after-requires
 after-requires c κs = search needs
 
 returns : tie.Need-returns
-returns c = put-out (omega arith) (c .before .if1 .taken) (rw (length-decimal, ← (c .before .before .places .ensures .0)) (c .after .ensures))
+returns c =
+    put-out (omega arith) (c .before .if1 .taken)
+    (rw (length-decimal, ← (c .before .before .places .ensures .0)) (c .after .ensures))
 
 put-digits-requires : tie.Need-put-digits-requires
 put-digits-requires c κs = search needs

@@ -13,7 +13,9 @@ same-length : tie.Need-same-length
 same-length c = search needs
 
 returns : tie.Need-returns
-returns c = put-first (c .before .before .put-image .ensures) (omega (arith, image-most (c .before .before .before .before .before .args .bytes)))
+returns c =
+    let line = c .before .before in
+    put-first (line .put-image .ensures) (omega (arith, image-most (line .before .before .before .args .bytes)))
 
 pub put-image-line-spec : {M : Type 1} → statement M
 put-image-line-spec = tie.close (tie.spec put-image-requires same-length returns)

@@ -2,7 +2,6 @@
 use borrow.Author.Needs.{needs}
 use borrow.Author.Tests.{eq-eqb, ne-eqb}
 use Rattle.who.specs.Replay.{refusedAt, goneOn}
-use Rattle.who.proofs.Early.{asked-early}
 use Rattle.who.proofs.question.go_on.Statement.{statement}
 use Rattle.who.proofs.question.go_on.Tie as tie
 
@@ -14,8 +13,7 @@ unfolding goneOn refusedAt
 returns c = rw (← (c .before .before .who-refusal .ensures), ne-eqb _ _ (c .before .if1 .taken))
 
 replay-all-requires : tie.Need-replay-all-requires
-replay-all-requires c κs = let k = c .before .before in
-    asked-early _ (k .before .before .before .args .s) _ _ (k .who-refusal .ensures) (c .before .if1 .left)
+replay-all-requires c κs = search needs
 
 same-length : tie.Need-same-length
 same-length c = search needs

@@ -37,8 +37,7 @@ part-replay-record-end : tie.Need-part-replay-record-end Inv-loop μ-loop
 part-replay-record-end c = search needs
 
 replay-record-requires : tie.Need-replay-record-requires Inv-loop μ-loop
-replay-record-requires c κs = let l = c .before .before .before in
-    rw (l .loop .inv .1 .1) (l .before .before .before .pre)
+replay-record-requires c κs = search needs
 
 add-i : tie.Need-add-i Inv-loop μ-loop
 add-i c = search needs

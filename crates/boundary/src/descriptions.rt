@@ -1,0 +1,42 @@
+// What a cell and the stack are like, for callers.
+ghost use mathlib.Core.Path.{_≡_};
+ghost use Rattle.described.specs.Described.{cellDescription, stackDescription};
+ghost use Rattle.lent.specs.Over.{over};
+ghost use Rattle.lent.specs.Setup.{settingsFrom};
+ghost use Rattle.lent.specs.Descriptions.{cellWords, stackWords};
+use described::cell::describe_cell;
+use described::stack::describe_stack;
+use lent::descriptions::put_cell;
+use lent::descriptions::put_stack;
+use lent::setup::settings_from;
+
+// A cell by its number, sound or not: where it lies, and why it is unsound.
+#[no_mangle]
+pub extern "C" fn solkverva_describe_cell(
+    ram: &[u16],
+    settings: &[u16],
+    cell: u16,
+    description: &mut [u16],
+) -> u16
+    ensures number { λ r. ⌜ r ≡ cellDescription (now (ram .entry)) (settingsFrom (now (settings .entry))) cell .number ⌝ }
+    ensures description { λ r. ⌜ now (description .exit) ≡ over (now (description .entry)) (cellWords (cellDescription (now (ram .entry)) (settingsFrom (now (settings .entry))) cell)) ⌝ }
+{
+    let d = describe_cell(ram, settings_from(settings), cell);
+    put_cell(description, d);
+    d.number
+}
+
+// The stack, sound or not.
+#[no_mangle]
+pub extern "C" fn solkverva_describe_stack(
+    ram: &[u16],
+    settings: &[u16],
+    description: &mut [u16],
+) -> u16
+    ensures number { λ r. ⌜ r ≡ stackDescription (now (ram .entry)) (settingsFrom (now (settings .entry))) .number ⌝ }
+    ensures description { λ r. ⌜ now (description .exit) ≡ over (now (description .entry)) (stackWords (stackDescription (now (ram .entry)) (settingsFrom (now (settings .entry))))) ⌝ }
+{
+    let d = describe_stack(ram, settings_from(settings));
+    put_stack(description, d);
+    d.number
+}

@@ -1,0 +1,204 @@
+// The answer for every address at once: two lent tables, as long as RAM, that are filled as a trace is replayed.
+ghost use mathlib.Core.Path.{_≡_};
+ghost use lib.ListN.{length, getD, set};
+ghost use Rattle.memory.specs.Writes.{applyWrites};
+ghost use Rattle.message.specs.Heard.{heardBytes};
+ghost use Rattle.who.specs.Tests.{replayRefusal};
+ghost use Rattle.who.specs.Replay.{heardIn};
+ghost use Rattle.tables.specs.Mark.{markOf};
+ghost use Rattle.tables.specs.Table.{entryAt, dataMarks, pointerMarks, stackMarks, markWrites, tablesOf, fillRecord, fillAll, filledWith};
+use crate::mark::entry_of;
+use crate::mark::mark_of;
+use decide::entry::Entry;
+use decide::plan::Plan;
+use deed::deed::Deed;
+use memory::map::lookup_table;
+use memory::map::stack_pointer_place;
+use memory::ram::put;
+use memory::ram::word_at;
+use std::num::wrapping_add_u64;
+use who::origin::Part;
+use who::origin::Who;
+use who::taken::Taken;
+use who::taken::take_record;
+use who::tests::replay_refusal;
+use windows::window::place;
+use words::number::ADDRESS_BEYOND;
+use words::remembered::Remembered;
+use words::settings::Settings;
+
+// What stands between two parts of a trace, beside RAM and the tables: what is remembered, and the number of the last record.
+pub struct Filling {
+    pub remembered: Remembered,
+    pub number: u64,
+}
+
+// The number that refuses, or 0, and where the replay stands.
+pub struct Filled {
+    pub number: u16,
+    pub at: Filling,
+}
+
+// A number of the table, 0 past its end.
+pub fn number_at(numbers: &[u64], at: usize) -> u64
+    ensures { λ r. ⌜ r ≡ getD (now (numbers .entry)) at 0 ⌝ }
+{
+    if at < numbers.len() { numbers[at] } else { 0 }
+}
+
+pub fn put_number(numbers: &mut [u64], at: usize, number: u64)
+    ensures { λ r. ⌜ now (numbers .exit) ≡ set (now (numbers .entry)) at number ⌝ }
+{
+    if at < numbers.len() {
+        numbers[at] = number;
+    }
+}
+
+// What filled tables say of an address.
+pub fn entry_at(numbers: &[u64], marks: &[u16], address: u16) -> Who
+    ensures { λ r. ⌜ r ≡ entryAt (now (numbers .entry)) (now (marks .entry)) address ⌝ }
+{
+    let a = address as usize;
+    if numbers.len() <= a {
+        return Who::Refused(ADDRESS_BEYOND);
+    }
+    entry_of(number_at(numbers, a), word_at(marks, a))
+}
+
+// One entry, in both tables.
+fn mark_at(numbers: &mut [u64], marks: &mut [u16], at: usize, number: u64, mark: u16)
+    ensures numbers { λ r. ⌜ now (numbers .exit) ≡ set (now (numbers .entry)) at number ⌝ }
+    ensures marks { λ r. ⌜ now (marks .exit) ≡ set (now (marks .entry)) at mark ⌝ }
+{
+    put_number(numbers, at, number);
+    put(marks, at, mark);
+}
+
+fn mark_data(numbers: &mut [u64], marks: &mut [u16], d: Deed, number: u64)
+    ensures numbers { λ r. ⌜ now (numbers .exit) ≡ applyWrites (dataMarks (λ part. number) d) (now (numbers .entry)) ⌝ }
+    ensures marks { λ r. ⌜ now (marks .exit) ≡ applyWrites (dataMarks (markOf (d .cell)) d) (now (marks .entry)) ⌝ }
+{
+    let w = d.window;
+    let cell = d.cell;
+    let n = d.stored;
+    let mut k: u16 = 0;
+    while k < n {
+        let mark = mark_of(cell, Part::Data(k + 1));
+        mark_at(numbers, marks, place(w, k), number, mark);
+        k += 1;
+    }
+}
+
+fn mark_pointer(numbers: &mut [u64], marks: &mut [u16], s: Settings, d: Deed, number: u64)
+    ensures numbers { λ r. ⌜ now (numbers .exit) ≡ applyWrites (pointerMarks (λ part. number) s d) (now (numbers .entry)) ⌝ }
+    ensures marks { λ r. ⌜ now (marks .exit) ≡ applyWrites (pointerMarks (markOf (d .cell)) s d) (now (marks .entry)) ⌝ }
+{
+    let area = s.area;
+    if d.moves {
+        let mark = mark_of(d.cell, Part::Pointer);
+        mark_at(
+            numbers,
+            marks,
+            lookup_table(area) + d.cell as usize,
+            number,
+            mark,
+        );
+    }
+}
+
+fn mark_stack(numbers: &mut [u64], marks: &mut [u16], e: Entry, cell: u16, number: u64)
+    ensures numbers { λ r. ⌜ now (numbers .exit) ≡ applyWrites (stackMarks (λ part. number) e) (now (numbers .entry)) ⌝ }
+    ensures marks { λ r. ⌜ now (marks .exit) ≡ applyWrites (stackMarks (markOf cell) e) (now (marks .entry)) ⌝ }
+{
+    let pointer = e.pointer as usize;
+    let mut k: usize = 0;
+    while k < 4 {
+        let mark = mark_of(cell, Part::Stack(k as u16 + 1));
+        mark_at(numbers, marks, pointer + k, number, mark);
+        k += 1;
+    }
+}
+
+// Every word that a plan writes.
+fn mark_plan(numbers: &mut [u64], marks: &mut [u16], s: Settings, p: Plan, number: u64)
+    ensures numbers { λ r. ⌜ now (numbers .exit) ≡ applyWrites (markWrites (λ part. number) s p) (now (numbers .entry)) ⌝ }
+    ensures marks { λ r. ⌜ now (marks .exit) ≡ applyWrites (markWrites (markOf (p .deed .cell)) s p) (now (marks .entry)) ⌝ }
+{
+    let deed = p.deed;
+    let entry = p.entry;
+    let area = s.area;
+    mark_data(numbers, marks, deed, number);
+    mark_pointer(numbers, marks, s, deed, number);
+    mark_stack(numbers, marks, entry, deed.cell, number);
+    let mark = mark_of(deed.cell, Part::StackPointer);
+    mark_at(numbers, marks, stack_pointer_place(area), number, mark);
+}
+
+// One record more.
+fn fill_record(
+    ram: &mut [u16],
+    numbers: &mut [u64],
+    marks: &mut [u16],
+    s: Settings,
+    at: Filling,
+    bytes: &[u8],
+) -> Filling
+    ensures { λ r. ⌜ tablesOf (now (ram .exit)) (now (numbers .exit)) (now (marks .exit)) r ≡ fillRecord s (heardBytes (now (bytes .entry))) (tablesOf (now (ram .entry)) (now (numbers .entry)) (now (marks .entry)) at) ⌝ }
+{
+    let before = at.remembered;
+    let number = wrapping_add_u64(at.number, 1);
+    let taken = take_record(ram, s, before, bytes);
+    match taken {
+        Taken::Passed => Filling {
+            remembered: before,
+            number,
+        },
+        Taken::Carried(plan, remembered) => {
+            mark_plan(numbers, marks, s, plan, number);
+            Filling { remembered, number }
+        }
+    }
+}
+
+// All whole records of a part of a trace.
+fn fill_all(
+    ram: &mut [u16],
+    numbers: &mut [u64],
+    marks: &mut [u16],
+    s: Settings,
+    at: Filling,
+    trace: &[u8],
+) -> Filling
+    ensures { λ r. ⌜ tablesOf (now (ram .exit)) (now (numbers .exit)) (now (marks .exit)) r ≡ fillAll s (heardIn (now (trace .entry))) (tablesOf (now (ram .entry)) (now (numbers .entry)) (now (marks .entry)) at) ⌝ }
+{
+    let records = trace.len() / 80;
+    let mut w = at;
+    let mut i: usize = 0;
+    while i < records {
+        let from = 80 * i;
+        w = fill_record(ram, numbers, marks, s, w, &trace[from..from + 80]);
+        i += 1;
+    }
+    w
+}
+
+// A part of a trace: RAM is replayed where it is lent, and the tables go on from what they hold, all zero at first. A table that is
+// shorter than RAM is filled as far as it reaches. A refusal changes nothing.
+pub fn fill(
+    ram: &mut [u16],
+    numbers: &mut [u64],
+    marks: &mut [u16],
+    s: Settings,
+    at: Filling,
+    trace: &[u8],
+) -> Filled
+    ensures number { λ r. ⌜ r .number ≡ replayRefusal (length (now (ram .entry))) s ⌝ }
+    ensures tables { λ r. ⌜ tablesOf (now (ram .exit)) (now (numbers .exit)) (now (marks .exit)) (r .at) ≡ filledWith s (heardIn (now (trace .entry))) (tablesOf (now (ram .entry)) (now (numbers .entry)) (now (marks .entry)) at) ⌝ }
+{
+    let number = replay_refusal(ram.len(), s);
+    if number != 0 {
+        return Filled { number, at };
+    }
+    let end = fill_all(ram, numbers, marks, s, at, trace);
+    Filled { number: 0, at: end }
+}
