@@ -3,12 +3,12 @@ use Prim.Native.Nat.{ℕ, _*_, _%_, _^_, _<_, _≤_}
 use native.Mathlib.Omega.{arith}
 use mathlib.Core.Path.{_≡_}
 use mathlib.Core.Logic.{⊎-elim}
-use mathlib.Core.Bool.{Bool, true, false}
+use mathlib.Core.Bool.{Bool, true, false, cond}
 use mathlib.Core.List.{List, [], _∷_, flatMap}
 use lib.ListN.{length, length-append}
 use lib.Dec.{eqb}
 use Rattle.words.proofs.Basics.{yes-or-no}
-use Rattle.words.specs.Number.{ramLength, badSettings, unsoundStack}
+use Rattle.words.specs.Number.{ramLength, badSettings, unsoundStack, addressBeyond}
 use Rattle.words.specs.declared.settings.Settings.{Settings}
 use Rattle.memory.specs.declared.kind.Kind.{Kind}
 use Rattle.memory.specs.declared.kind.Kind.the-variants.{Receive, Transmit, Broadcast}
@@ -62,18 +62,20 @@ unfolding unsoundLine
 unsound-line-most [] h = omega arith
 unsound-line-most (x ∷ xs) h = simp length-append (omega (arith, cell-most x, lines-most alsoText 32 also-most xs))
 
-reason-most : (number : ℕ) → length (reasonText number) ≤ 18
+-- the longer of two texts
+either-most : (b : Bool) (xs ys : List ℕ) (n : ℕ) → length xs ≤ n → length ys ≤ n → length (cond b xs ys) ≤ n
+either-most true xs ys n h k = h
+either-most false xs ys n h k = k
+
+reason-most : (number : ℕ) → length (reasonText number) ≤ 22
 unfolding reasonText
 reason-most number =
-    ⊎-elim (λ (e : eqb number ramLength ≡ true). rw e (omega arith))
-    (λ (e : eqb number ramLength ≡ false). ⊎-elim (λ (f : eqb number badSettings ≡ true). rw (e, f) (omega arith))
-    (λ (f : eqb number badSettings ≡ false). ⊎-elim (λ (g : eqb number unsoundStack ≡ true). rw (e, f, g) (omega arith))
-    (λ (g : eqb number unsoundStack ≡ false). rw (e, f, g) (omega arith))
-    (yes-or-no (eqb number unsoundStack)))
-    (yes-or-no (eqb number badSettings)))
-    (yes-or-no (eqb number ramLength))
+    either-most (eqb number ramLength) _ _ 22 (omega arith)
+    (either-most (eqb number badSettings) _ _ 22 (omega arith)
+    (either-most (eqb number unsoundStack) _ _ 22 (omega arith)
+    (either-most (eqb number addressBeyond) _ _ 22 (omega arith) (omega arith))))
 
-refused-most : (number : ℕ) → length (refusedLine number) ≤ 49
+refused-most : (number : ℕ) → length (refusedLine number) ≤ 53
 unfolding refusedLine
 refused-most number = simp length-append (omega (arith, decimal-most number, reason-most number))
 

@@ -3,7 +3,7 @@ use Prim.Native.Nat.{ℕ, _%_}
 use mathlib.Core.Bool.{Bool, true, false, cond}
 use mathlib.Core.List.{List, [], _∷_, _++_, flatMap}
 use lib.Dec.{eqb}
-use Rattle.words.specs.Number.{ramLength, badSettings, unsoundStack}
+use Rattle.words.specs.Number.{ramLength, badSettings, unsoundStack, addressBeyond}
 use Rattle.memory.specs.declared.kind.Kind.{Kind}
 use Rattle.memory.specs.declared.kind.Kind.the-variants.{Receive, Transmit, Broadcast}
 use Rattle.memory.specs.Kind.{kindNumbered}
@@ -60,7 +60,7 @@ unfoldable pub unsoundLine : List ℕ → List ℕ
 unsoundLine [] = []
 unsoundLine (first ∷ others) = unsoundName ++ cellText first ++ flatMap alsoText others ++ newline
 
--- why: `wrong RAM length`, `bad settings`, `stack unsound`, `no such sound cell`
+-- why: `wrong RAM length`, `bad settings`, `stack unsound`, `address beyond the RAM`, `no such sound cell`
 abbrev pub ramReason : List ℕ
 ramReason = 119 ∷ 114 ∷ 111 ∷ 110 ∷ 103 ∷ 32 ∷ 82 ∷ 65 ∷ 77 ∷ 32 ∷ 108 ∷ 101 ∷ 110 ∷ 103 ∷ 116 ∷ 104 ∷ []
 
@@ -70,13 +70,17 @@ settingsReason = 98 ∷ 97 ∷ 100 ∷ 32 ∷ 115 ∷ 101 ∷ 116 ∷ 116 ∷ 10
 abbrev pub stackReason : List ℕ
 stackReason = 115 ∷ 116 ∷ 97 ∷ 99 ∷ 107 ∷ 32 ∷ 117 ∷ 110 ∷ 115 ∷ 111 ∷ 117 ∷ 110 ∷ 100 ∷ []
 
+abbrev pub addressReason : List ℕ
+addressReason = 97 ∷ 100 ∷ 100 ∷ 114 ∷ 101 ∷ 115 ∷ 115 ∷ 32 ∷ 98 ∷ 101 ∷ 121 ∷ 111 ∷ 110 ∷ 100 ∷ 32 ∷ 116 ∷ 104 ∷ 101 ∷ 32 ∷ 82 ∷ 65 ∷ 77 ∷ []
+
 abbrev pub cellReason : List ℕ
 cellReason = 110 ∷ 111 ∷ 32 ∷ 115 ∷ 117 ∷ 99 ∷ 104 ∷ 32 ∷ 115 ∷ 111 ∷ 117 ∷ 110 ∷ 100 ∷ 32 ∷ 99 ∷ 101 ∷ 108 ∷ 108 ∷ []
 
 unfoldable pub reasonText : ℕ → List ℕ
 reasonText number =
     cond (eqb number ramLength) ramReason
-    (cond (eqb number badSettings) settingsReason (cond (eqb number unsoundStack) stackReason cellReason))
+    (cond (eqb number badSettings) settingsReason
+    (cond (eqb number unsoundStack) stackReason (cond (eqb number addressBeyond) addressReason cellReason)))
 
 -- `refused` and `: `
 abbrev pub refusedName : List ℕ

@@ -7,11 +7,12 @@ use memory::kind::Kind;
 use text::line::put_newline;
 use text::line::put_number;
 use text::text::put_bytes;
+use words::number::ADDRESS_BEYOND;
 use words::number::BAD_SETTINGS;
 use words::number::RAM_LENGTH;
 use words::number::UNSOUND_STACK;
 
-fn put_kind(out: &mut [u8], at: usize, kind: Kind) -> usize
+pub fn put_kind(out: &mut [u8], at: usize, kind: Kind) -> usize
     ensures { λ r. ⌜ Put (now (out .entry)) at (kindName kind) (now (out .exit)) r ⌝ }
 {
     match kind {
@@ -68,11 +69,14 @@ fn put_reason(out: &mut [u8], at: usize, number: u16) -> usize
     if number == UNSOUND_STACK {
         return put_bytes(out, at, b"stack unsound");
     }
+    if number == ADDRESS_BEYOND {
+        return put_bytes(out, at, b"address beyond the RAM");
+    }
     put_bytes(out, at, b"no such sound cell")
 }
 
-// The line of a refusal.
-pub(crate) fn put_refused(out: &mut [u8], at: usize, number: u16) -> usize
+// The line of a refusal: of a label, and of the question who put a word where it is.
+pub fn put_refused(out: &mut [u8], at: usize, number: u16) -> usize
     ensures { λ r. ⌜ Put (now (out .entry)) at (refusedLine number) (now (out .exit)) r ⌝ }
 {
     let told = put_bytes(out, at, b"refused");

@@ -9,6 +9,10 @@ pub put-line-settled : Settled 1 line.put_line.Kinds.ps line.put_line.Kinds.r li
 put-line-settled κs a x y v w p q =
     (determined (p .place) (q .place), λ i. (determined (p .bytes) (q .bytes) i, v .1))
 
+pub put-hex-word-settled : Settled 1 line.put_hex_word.Kinds.ps line.put_hex_word.Kinds.r line.put_hex_word.Reads.Post
+put-hex-word-settled κs a x y v w p q =
+    (determined (p .place) (q .place), λ i. (determined (p .bytes) (q .bytes) i, v .1))
+
 pub put-tail-settled : Settled 1 line.put_tail.Kinds.ps line.put_tail.Kinds.r line.put_tail.Reads.Post
 put-tail-settled κs a x y v w p q =
     (determined (p .place) (q .place), λ i. (determined (p .bytes) (q .bytes) i, v .1))

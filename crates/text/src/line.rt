@@ -20,6 +20,17 @@ pub fn put_newline(out: &mut [u8], at: usize) -> usize
     at + 1
 }
 
+// A stored word at the start of a line.
+pub fn put_hex_word(out: &mut [u8], at: usize, w: u16) -> usize
+    ensures { λ r. ⌜ Put (now (out .entry)) at (hexText w) (now (out .exit)) r ⌝ }
+{
+    if out.len() <= at {
+        return after(at, 4);
+    }
+    put_hex(out, at, w);
+    at + 4
+}
+
 // A column of a stored word.
 fn put_word(out: &mut [u8], at: usize, w: u16) -> usize
     ensures { λ r. ⌜ Put (now (out .entry)) at (column (hexText w)) (now (out .exit)) r ⌝ }

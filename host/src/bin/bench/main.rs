@@ -12,7 +12,7 @@ use std::process::ExitCode;
 use std::time::Duration;
 
 use plain_terminal::clock::Clock;
-use plain_terminal::engine::boundary as proved;
+use plain_terminal::engine::{self, boundary as proved};
 use plain_terminal::spread::Spread;
 use plain_terminal::terminal::boundary::{
     self as plain, settings_words, ANSWER_WORDS, COUNTS_WORDS, LISTING_WORDS, PAIRS_WORDS,
@@ -20,6 +20,8 @@ use plain_terminal::terminal::boundary::{
 };
 use plain_terminal::terminal::message::REPLY_WORDS;
 use plain_terminal::terminal::records::RECORD_BYTES;
+use plain_terminal::terminal::who::Origin;
+use plain_terminal::terminal::{self, Settings};
 
 use rows::{rows, Row, Work};
 
@@ -52,6 +54,8 @@ struct Side {
     label_area: fn(&[u16], &[u16], &mut [u16], &mut [u16], &mut [u16]) -> u16,
     read: fn(&[u8], &mut [u16]) -> u16,
     write: fn(&[u16], &mut [u8]) -> u16,
+    who: fn(&[u16], &Settings, &[u8], u16) -> Result<Option<Origin>, u16>,
+    who_all: fn(&[u16], &Settings, &[u8]) -> u64,
 }
 
 const PLAIN: Side = Side {
@@ -62,6 +66,8 @@ const PLAIN: Side = Side {
     label_area: plain::label_area,
     read: plain::read,
     write: plain::write,
+    who: terminal::who::who,
+    who_all: plain_who_all,
 };
 
 const PROVED: Side = Side {
@@ -72,7 +78,41 @@ const PROVED: Side = Side {
     label_area: proved::label_area,
     read: proved::read,
     write: proved::write,
+    who: engine::who::who,
+    who_all: proved_who_all,
 };
+
+/// The tables of a whole trace: a sum over what they say of two addresses.
+macro_rules! who_all {
+    ($walk:ident, $go_on:expr) => {{
+        $go_on;
+        let told = [0x0100, 0x0402].map(|address| $walk.who(address));
+        told.into_iter().map(sum_of).sum()
+    }};
+}
+
+fn plain_who_all(image: &[u16], settings: &Settings, trace: &[u8]) -> u64 {
+    let mut walk = terminal::who::Walk::new(image, settings).expect("the row is not refused");
+    who_all!(
+        walk,
+        trace
+            .chunks_exact(RECORD_BYTES)
+            .for_each(|record| walk.record(record))
+    )
+}
+
+fn proved_who_all(image: &[u16], settings: &Settings, trace: &[u8]) -> u64 {
+    let mut walk = engine::who::Walk::new(image, settings).expect("the row is not refused");
+    who_all!(walk, walk.go_on(trace))
+}
+
+fn sum_of(told: Result<Option<Origin>, u16>) -> u64 {
+    match told {
+        Ok(Some(origin)) => origin.record + u64::from(origin.cell),
+        Ok(None) => 0,
+        Err(number) => number.into(),
+    }
+}
 
 /// Runs one row on one side, for whoever counts instructions from outside.
 fn count(name: &str, side: &str, messages: &str) -> ExitCode {
@@ -118,7 +158,7 @@ fn run(side: &Side, row: &Row, messages: usize) -> (Duration, u64) {
     let mut sum = 0;
     let start = Clock::start();
     for _ in 0..messages {
-        sum += lent.ask(side, &row.work);
+        sum += lent.ask(side, row);
     }
     (start.elapsed(), sum)
 }
@@ -157,7 +197,7 @@ impl Lent {
 
     /// Asks a side once; returns a sum over what it answered.
     #[inline(always)]
-    fn ask(&mut self, side: &Side, work: &Work) -> u64 {
+    fn ask(&mut self, side: &Side, row: &Row) -> u64 {
         let Lent {
             ram,
             settings,
@@ -171,7 +211,7 @@ impl Lent {
             unsound,
             pairs,
         } = self;
-        let (number, last) = match work {
+        let (number, last) = match &row.work {
             Work::Bytes(bytes) => {
                 let number = (side.message)(ram, reply, settings, remembered, bytes, answer);
                 (number.into(), answer[8])
@@ -191,6 +231,22 @@ impl Lent {
             }
             Work::Read(bytes) => ((side.read)(bytes, value).into(), value[35]),
             Work::Write(value) => ((side.write)(value, bytes).into(), bytes[79].into()),
+            Work::Walk(records) => {
+                ram.copy_from_slice(&row.ram);
+                *remembered = [0; REMEMBERED_WORDS];
+                for record in records.chunks_exact(RECORD_BYTES) {
+                    (side.message)(ram, reply, settings, remembered, record, answer);
+                }
+                (answer[0].into(), ram[0x0402])
+            }
+            Work::Who(address, records) => {
+                let told = (side.who)(&row.ram, &row.settings, records, *address);
+                (0, sum_of(told) as u16)
+            }
+            Work::WhoAll(records) => {
+                let told = (side.who_all)(&row.ram, &row.settings, records);
+                (0, told as u16)
+            }
         };
         u64::from(number) + u64::from(last)
     }

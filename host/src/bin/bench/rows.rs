@@ -21,6 +21,12 @@ pub enum Work {
     LabelArea,
     Read(Vec<u8>),
     Write([u16; VALUE_WORDS]),
+    /// Records one after the other.
+    Walk(Vec<u8>),
+    /// Who put the word at an address where it is, after such records.
+    Who(u16, Vec<u8>),
+    /// The same for every address.
+    WhoAll(Vec<u8>),
 }
 
 /// Words of RAM that are not zero.
@@ -41,6 +47,7 @@ pub fn rows() -> Vec<Row> {
     rows.extend(refused());
     rows.extend(others());
     rows.extend(labels());
+    rows.extend(origins());
     rows
 }
 
@@ -152,6 +159,31 @@ fn labels() -> [Row; 6] {
             ..row("label of the area, 4005 pairs", &together, Work::LabelArea)
         },
         row("label of the area, all cells unsound", &[], Work::LabelArea),
+    ]
+}
+
+/// The same fifty records without the question who put a word where it is, and with it.
+fn origins() -> [Row; 3] {
+    let some = [
+        record_bytes(0x2864, 4),
+        record_bytes(0x2C64, 0),
+        record_bytes(0x2864, 3),
+        record_bytes(0x3061, 1),
+        record_bytes(0x2860, 32),
+    ];
+    let records = some.concat().repeat(10);
+    [
+        row("50 records", CIRCLE, Work::Walk(records.clone())),
+        row(
+            "50 records, who wrote one address",
+            CIRCLE,
+            Work::Who(0x0402, records.clone()),
+        ),
+        row(
+            "50 records, who wrote each address",
+            CIRCLE,
+            Work::WhoAll(records),
+        ),
     ]
 }
 

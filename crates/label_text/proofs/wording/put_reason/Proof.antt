@@ -69,11 +69,33 @@ unfolding reasonText
 returns-4 c =
     let asked = c .before .before .before .before .before in
     rw (
-      ne-eqb _ _ (asked .before .before .if1 .left),
-      ne-eqb _ _ (asked .before .if2 .left),
-      ne-eqb _ _ (asked .if3 .left),
+      ne-eqb _ _ (asked .before .before .before .if1 .left),
+      ne-eqb _ _ (asked .before .before .if2 .left),
+      ne-eqb _ _ (asked .before .if3 .left),
+      eq-eqb _ _ (asked .if4 .taken),
     )
     (c .before .before .put-bytes4 .ensures)
+
+slice-aggregate-put-bytes-5 : tie.Need-slice-aggregate-put-bytes-5
+slice-aggregate-put-bytes-5 c = search needs
+
+put-bytes-requires-5 : tie.Need-put-bytes-requires-5
+put-bytes-requires-5 c κs = search needs
+
+same-length-5 : tie.Need-same-length-5
+same-length-5 c = search needs
+
+returns-5 : tie.Need-returns-5
+unfolding reasonText
+returns-5 c =
+    let asked = c .before .before .before .before .before in
+    rw (
+      ne-eqb _ _ (asked .before .before .before .if1 .left),
+      ne-eqb _ _ (asked .before .before .if2 .left),
+      ne-eqb _ _ (asked .before .if3 .left),
+      ne-eqb _ _ (asked .if4 .left),
+    )
+    (c .before .before .put-bytes5 .ensures)
 
 pub put-reason-spec : {M : Type 1} → statement M
 put-reason-spec =
@@ -94,4 +116,8 @@ put-reason-spec =
     slice-aggregate-put-bytes-4
     put-bytes-requires-4
     same-length-4
-    returns-4)
+    returns-4
+    slice-aggregate-put-bytes-5
+    put-bytes-requires-5
+    same-length-5
+    returns-5)
