@@ -282,7 +282,7 @@ impl Coverage {
         self.note(CountZero, record.count == 0);
         self.note(CountOver, record.count == TOO_MANY);
         self.note(CountFieldZero, command.count_field() == 0);
-        let class = match (command.is_broadcast(), command.is_transmit()) {
+        let class = match (settings.is_broadcast(command), command.is_transmit()) {
             (false, false) => OwnReceive,
             (false, true) => OwnTransmit,
             (true, false) => BroadcastReceive,

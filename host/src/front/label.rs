@@ -88,7 +88,7 @@ impl Shared<'_> {
         let settings = &self.source.settings;
         let kinds = KINDS.into_iter();
         kinds
-            .filter(|&kind| kind != Kind::Broadcast || settings.separate_broadcast)
+            .filter(|&kind| kind != Kind::Broadcast || settings.has_broadcast_cells())
             .map(|kind| self.cell(names::cell_number(kind, subaddress)))
             .collect()
     }

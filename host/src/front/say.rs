@@ -109,9 +109,9 @@ pub fn rolled_over(block_status: u16) -> bool {
 /// What a command asks: `terminal 5 receives 4 words at subaddress 3 (Anna)`.
 pub fn command(word: u16, settings: &Settings, owners: &Owners) -> String {
     let command = Command(word);
-    let ours = command.address() == settings.address || command.is_broadcast();
+    let ours = settings.is_ours(command);
     let who = match command.address() {
-        _ if command.is_broadcast() => "broadcast: every terminal".to_string(),
+        _ if settings.is_broadcast(command) => "broadcast: every terminal".to_string(),
         address => format!("terminal {address}"),
     };
     let what = match command.subaddress() {
