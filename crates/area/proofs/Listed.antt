@@ -3,14 +3,13 @@ use Prim.Native.Nat.{ℕ, _%_, _≤_, _<_}
 use native.Mathlib.Omega.{arith}
 use mathlib.Core.Path.{_≡_, refl}
 use mathlib.Core.Logic.{⊎-elim}
-use mathlib.Core.Bool.{Bool, true, false, cond, _&&_, _||_, or-false}
+use mathlib.Core.Bool.{Bool, true, false, cond, _&&_, _||_}
 use mathlib.Core.List.{List}
 use lib.Dec.{ltb, leb, eqb}
 use borrow.Author.Tests.{ltb-true, leb-true, lt-ltb, le-ltb, le-leb}
 use Rattle.words.specs.declared.settings.Settings.{Settings}
 use Rattle.words.specs.Command.{addressOf, transmits, subaddressOf}
 use Rattle.words.specs.Settings.{isBroadcast, hasBroadcastCells}
-use Rattle.words.proofs.SettingsLaws.{broadcasts-off, cells-off}
 use Rattle.words.proofs.Basics.{and-left, and-right, lt-or-ge, or-either, not-both}
 use Rattle.memory.specs.declared.kind.Kind.{Kind}
 use Rattle.memory.specs.declared.kind.Kind.the-variants.{Receive, Transmit, Broadcast}
@@ -85,17 +84,6 @@ pub broadcast-separate : (s : Settings) (command : ℕ) → kindOf s command ≡
 unfolding kindOf isBroadcast hasBroadcastCells
 broadcast-separate s command e =
     separate-only (transmits command) (s .broadcast) (eqb (addressOf command) 31) (s .«separate_broadcast») e
-
--- with broadcast off no broadcast cell is used, nor read: separate-broadcast has no say
-pub kinds-off : (s : Settings) (command : ℕ) → s .broadcast ≡ false → kindOf s command ≡ cond (transmits command) Transmit Receive
-unfolding kindOf
-kinds-off s command off = rw (broadcasts-off s command off)
-
-pub read-off :
-    (s : Settings) (n : ℕ) → s .broadcast ≡ false →
-    isRead s n ≡ ((leb 1 (n % 32) && leb (n % 32) 30) && ltb n 64)
-unfolding isRead
-read-off s n off = rw (cells-off s off, or-false)
 
 broadcast-high : (kind : Kind) (sub : ℕ) → sub < 32 → 64 ≤ cellNumber kind sub → kind ≡ Broadcast
 unfolding cellNumber
