@@ -133,7 +133,7 @@ impl Shared<'_> {
     }
 
     fn refused(&self, number: u16) -> Problem {
-        let mut why = say::refusal(number).to_string();
+        let mut why = say::refusal(number, &self.source.settings).to_string();
         if number == 8 {
             let faults = stack_faults(self.ram, &self.source.settings);
             why += &format!(": {}", faults.join(" and "));

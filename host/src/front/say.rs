@@ -202,11 +202,14 @@ pub fn bus(record: &Record) -> char {
 }
 
 /// Why a number refuses, as far as the number says it.
-pub fn refusal(number: u16) -> &'static str {
+pub fn refusal(number: u16, settings: &Settings) -> &'static str {
     match number {
         1 => "the RAM is not 4,096 words",
         2 => "the reply buffer is under 33 words",
-        3 => "the RT address is over 30, or the stack size is none of 256, 512, 1024, 2048",
+        3 if settings.broadcast => {
+            "the RT address is over 30, or the stack size is none of 256, 512, 1024, 2048"
+        }
+        3 => "the RT address is over 31, or the stack size is none of 256, 512, 1024, 2048",
         4 => "the record is not 80 bytes",
         5 => "the record breaks its layout",
         6 => "not for this terminal",
