@@ -238,7 +238,9 @@ impl Coverage {
         let own = address == BROADCAST_ADDRESS;
         self.note(Class::Refused3At31, number == 3 && own && broadcast);
         let record = record_of(&request.message);
-        let to_31 = record.map_or(false, |it| Command(it.command).address() == BROADCAST_ADDRESS);
+        let to_31 = record.map_or(false, |it| {
+            Command(it.command).address() == BROADCAST_ADDRESS
+        });
         self.note(Class::Refused6At31, number == 6 && to_31);
     }
 

@@ -12,8 +12,8 @@ use crate::terminal::cells::{
 };
 use crate::terminal::message::{cell_kind, REPLY_WORDS};
 use crate::terminal::records::{put_together, Record, RECORD_BYTES, RECORD_WORDS};
-use crate::terminal::tables::{busy_place, illegal_place, BitPlace};
 use crate::terminal::settings::BROADCAST_ADDRESS;
+use crate::terminal::tables::{busy_place, illegal_place, BitPlace};
 use crate::terminal::words::Command;
 use crate::terminal::Settings;
 

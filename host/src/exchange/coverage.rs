@@ -117,7 +117,9 @@ impl Coverage {
             self.take_in_uses(pair.map(|number| &uses[number]));
             self.take_in_answers(pair.map(|number| &both.old.shown[number].answer));
             let command = |number: usize| Command(list.messages[number].command);
-            let broadcast = pair.iter().any(|&number| list.settings.is_broadcast(command(number)));
+            let broadcast = pair
+                .iter()
+                .any(|&number| list.settings.is_broadcast(command(number)));
             self.note(Class::Broadcast, broadcast);
             self.note(Class::Equal, pair.iter().any(|&number| equal[number]));
             order.swap(place, place + 1);
