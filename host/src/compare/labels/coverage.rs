@@ -30,6 +30,7 @@ classes! {
     Stack2048 "stack of 2048 words",
     Separate "broadcast cells of their own",
     Together "broadcast with receive",
+    SeparateOff "broadcast off, though separate-broadcast is on",
     Receives "pairs of receive cells",
     Transmits "pairs of transmit cells",
     Broadcasts "pairs of broadcast cells",
@@ -131,7 +132,11 @@ impl Coverage {
         self.note(Stack1024, settings.stack_size == 1024);
         self.note(Stack2048, settings.stack_size == 2048);
         self.note(Separate, settings.has_broadcast_cells());
-        self.note(Together, !settings.has_broadcast_cells());
+        self.note(Together, settings.broadcast && !settings.separate_broadcast);
+        self.note(
+            SeparateOff,
+            !settings.broadcast && settings.separate_broadcast,
+        );
     }
 
     fn take_in_area(&mut self, asked: &Asked) {
