@@ -19,7 +19,8 @@
  *
  * settings: RT address; area (0 is A, any other word B); stack size in words; then yes/no (0 is no): overwrite-invalid,
  *   separate-broadcast, illegal-receive-disable, busy-receive-disable, busy-always, service request, subsystem flag,
- *   terminal flag.
+ *   terminal flag, broadcast off. With eleven words, as there were before, broadcast is on. Where it is off, 31 is an
+ *   address like the others, no message is a broadcast, and separate-broadcast has no effect.
  * remembered: last command, last status. Both 0 at first; lend each message what the one before left.
  * value: command, time tag, flags, count, thirty-two words, transmit command. A flags or count word over 255 counts as
  *   255, which breaks the layout.
@@ -74,7 +75,7 @@ extern "C" {
 enum {
     SOLKVERVA_RAM_WORDS = 4096,
     SOLKVERVA_REPLY_WORDS = 33,
-    SOLKVERVA_SETTINGS_WORDS = 11,
+    SOLKVERVA_SETTINGS_WORDS = 12,
     SOLKVERVA_REMEMBERED_WORDS = 2,
     SOLKVERVA_VALUE_WORDS = 37,
     SOLKVERVA_ANSWER_WORDS = 9,
@@ -106,10 +107,10 @@ enum {
     SOLKVERVA_DONE = 0,
     SOLKVERVA_RAM_LENGTH = 1,      /* RAM is not 4,096 words */
     SOLKVERVA_REPLY_ROOM = 2,      /* reply buffer under 33 words */
-    SOLKVERVA_BAD_SETTINGS = 3,    /* RT address over 30, or stack size not 256, 512, 1,024 or 2,048 */
+    SOLKVERVA_BAD_SETTINGS = 3,    /* RT address over 30 (31 with broadcast off), or stack size none of the four */
     SOLKVERVA_RECORD_LENGTH = 4,   /* record is not 80 bytes */
     SOLKVERVA_RECORD_LAYOUT = 5,   /* record breaks its layout */
-    SOLKVERVA_OTHER_ADDRESS = 6,   /* not own address and not 31 */
+    SOLKVERVA_OTHER_ADDRESS = 6,   /* not own address, and not 31 with broadcast on */
     SOLKVERVA_MODE_SUBADDRESS = 7, /* subaddress 0 or 31 */
     SOLKVERVA_UNSOUND_STACK = 8,   /* stack unsound */
     SOLKVERVA_UNSOUND_CELL = 9,    /* the message's cell unsound, or a cell of the area, or the cell that is asked for */

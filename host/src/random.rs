@@ -2,7 +2,8 @@
 //! the random inputs that tests and comparisons share.
 
 use crate::terminal::records::{Record, FLAG_NO_STATUS, FLAG_TRANSFER, TOO_MANY};
-use crate::terminal::words::{Command, BROADCAST_ADDRESS};
+use crate::terminal::settings::BROADCAST_ADDRESS;
+use crate::terminal::words::Command;
 use crate::terminal::Settings;
 
 #[derive(Clone, Debug)]
@@ -45,8 +46,10 @@ impl Random {
 
     /// Settings that are not refused.
     pub fn settings(&mut self) -> Settings {
+        let broadcast = !self.chance(4);
+        let highest = !broadcast && self.chance(2);
         Settings {
-            address: self.below(31) as u16,
+            address: if highest { 31 } else { self.below(31) as u16 },
             area_b: self.chance(2),
             stack_size: self.pick(&[256, 512, 1024, 2048]),
             overwrite_invalid: self.chance(2),
@@ -57,6 +60,7 @@ impl Random {
             service_request: self.chance(2),
             subsystem_flag: self.chance(2),
             terminal_flag: self.chance(2),
+            broadcast,
         }
     }
 

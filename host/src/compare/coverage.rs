@@ -9,6 +9,7 @@ use crate::terminal::message::cell_kind;
 use crate::terminal::records::{
     read_record, Record, FLAG_BUS_B, FLAG_INVALID_WORD, FLAG_WRONG_SYNC, TOO_MANY,
 };
+use crate::terminal::settings::BROADCAST_ADDRESS;
 use crate::terminal::words::Command;
 use crate::terminal::{Answer, Settings};
 
@@ -19,6 +20,7 @@ classes! {
     Refused1 "refused with 1, RAM length",
     Refused2 "refused with 2, reply length",
     Refused3 "refused with 3, settings",
+    Refused3At31 "refused with 3, our own address 31 with broadcast on",
     Refused4 "refused with 4, record length",
     Refused5 "refused with 5, record layout (bytes)",
     Refused5Value "refused with 5, record layout (value)",
@@ -31,6 +33,7 @@ classes! {
     CommandOfTransfer5 "refused with 5 for bytes 2-3 without flag 8 alone",
     NoWordAfterFault5 "refused with 5 for a count with flags 16 to 64 alone",
     Refused6 "refused with 6, address",
+    Refused6At31 "refused with 6, address 31 with broadcast off",
     Refused7 "refused with 7, subaddress",
     Refused8 "refused with 8, stack",
     Refused9 "refused with 9, cell",
@@ -65,6 +68,11 @@ classes! {
     OwnTransmit "own transmit",
     BroadcastReceive "broadcast receive",
     BroadcastTransmit "broadcast transmit (contents fault)",
+    YesBroadcast "broadcast on",
+    NoBroadcast "broadcast off",
+    OrdinaryReceive "receive at 31, our own with broadcast off",
+    OrdinaryTransmit "transmit at 31, our own with broadcast off",
+    OrdinarySeparate "separate-broadcast on with broadcast off",
     CountFault "count fault",
     SyncFault "sync fault",
     InvalidWord "invalid word",
@@ -172,7 +180,7 @@ impl Coverage {
         self.take_in_area(answers);
         let answer = &answers.answer;
         if answer.number != 0 {
-            self.take_in_refusal(before, from_bytes, answer.number);
+            self.take_in_refusal(before, request, from_bytes, answer.number);
             self.take_in_refused_record(&request.message, answer.number);
         } else if let (Some(record), Some((cell, stack))) =
             (record_of(&request.message), &before.cell)
@@ -195,7 +203,13 @@ impl Coverage {
         }
     }
 
-    fn take_in_refusal(&mut self, before: &Before, from_bytes: bool, number: u16) {
+    fn take_in_refusal(
+        &mut self,
+        before: &Before,
+        request: &Request,
+        from_bytes: bool,
+        number: u16,
+    ) {
         let class = match number {
             1 => Class::Refused1,
             2 => Class::Refused2,
@@ -209,10 +223,25 @@ impl Coverage {
             _ => Class::Refused9,
         };
         self.note(class, true);
+        self.take_in_31(request, number);
         if let Some((cell, _)) = &before.cell {
             let too_large = matches!(cell.scheme, Scheme::Circular(4096 | 8192));
             self.note(Class::CircleTooLarge, number == 9 && too_large);
         }
+    }
+
+    /// Refusals that turn on whether 31 is broadcast.
+    fn take_in_31(&mut self, request: &Request, number: u16) {
+        let Settings {
+            address, broadcast, ..
+        } = request.settings;
+        let own = address == BROADCAST_ADDRESS;
+        self.note(Class::Refused3At31, number == 3 && own && broadcast);
+        let record = record_of(&request.message);
+        let to_31 = record.map_or(false, |it| {
+            Command(it.command).address() == BROADCAST_ADDRESS
+        });
+        self.note(Class::Refused6At31, number == 6 && to_31);
     }
 
     fn take_in_settings(&mut self, mut settings: Settings) {
@@ -225,6 +254,11 @@ impl Coverage {
         for ((yes, no), (_, switch)) in SWITCHED.into_iter().zip(Settings::SWITCHES) {
             self.either(yes, no, *switch(&mut settings));
         }
+        self.either(YesBroadcast, NoBroadcast, settings.broadcast);
+        self.note(
+            OrdinarySeparate,
+            settings.separate_broadcast && !settings.broadcast,
+        );
     }
 
     fn take_in_place(&mut self, cell: &Cell, stack: &Stack) {
@@ -262,8 +296,8 @@ impl Coverage {
         answer: &Answer,
     ) {
         self.note(Class::Accepted, true);
-        self.take_in_record(record);
-        self.take_in_transfer(record, answer);
+        self.take_in_record(settings, record);
+        self.take_in_transfer(settings, record, answer);
         self.take_in_answer(settings, answer);
         let moved = if Command(record.command).is_transmit() {
             answer.sent
@@ -273,7 +307,7 @@ impl Coverage {
         self.take_in_pointer(cell, moved, answer);
     }
 
-    fn take_in_record(&mut self, record: &Record) {
+    fn take_in_record(&mut self, settings: &Settings, record: &Record) {
         use Class::*;
         let command = Command(record.command);
         self.note(BusB, record.has_flag(FLAG_BUS_B));
@@ -282,13 +316,18 @@ impl Coverage {
         self.note(CountZero, record.count == 0);
         self.note(CountOver, record.count == TOO_MANY);
         self.note(CountFieldZero, command.count_field() == 0);
-        let class = match (command.is_broadcast(), command.is_transmit()) {
+        let class = match (settings.is_broadcast(command), command.is_transmit()) {
             (false, false) => OwnReceive,
             (false, true) => OwnTransmit,
             (true, false) => BroadcastReceive,
             (true, true) => BroadcastTransmit,
         };
         self.note(class, true);
+        let ordinary = match command.is_transmit() {
+            true => OrdinaryTransmit,
+            false => OrdinaryReceive,
+        };
+        self.note(ordinary, settings.address == BROADCAST_ADDRESS);
     }
 
     fn take_in_answer(&mut self, settings: &Settings, answer: &Answer) {

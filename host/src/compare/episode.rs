@@ -12,8 +12,9 @@ use crate::terminal::cells::{
 };
 use crate::terminal::message::{cell_kind, REPLY_WORDS};
 use crate::terminal::records::{put_together, Record, RECORD_BYTES, RECORD_WORDS};
+use crate::terminal::settings::BROADCAST_ADDRESS;
 use crate::terminal::tables::{busy_place, illegal_place, BitPlace};
-use crate::terminal::words::{Command, BROADCAST_ADDRESS};
+use crate::terminal::words::Command;
 use crate::terminal::Settings;
 
 /// Messages of an episode: a stack of 256 words wraps in it from any place.
@@ -165,17 +166,20 @@ impl Episode {
 
     /// New answers to the yes/no settings; the rest stays with the image.
     fn turn_settings(&mut self) {
+        let turned = self.random.settings();
         self.settings = Settings {
             address: self.settings.address,
             area_b: self.settings.area_b,
             stack_size: self.settings.stack_size,
-            ..self.random.settings()
+            // With broadcast on, address 31 is refused.
+            broadcast: turned.broadcast && self.settings.address != BROADCAST_ADDRESS,
+            ..turned
         };
     }
 
     fn spoil_settings(&mut self, settings: &mut Settings) {
         if self.random.chance(2) {
-            settings.address = self.random.pick(&[31, 32, 37, 63, 0x8005, 0xFFFF]);
+            settings.address = self.random.pick(&[31, 31, 32, 37, 63, 0x8005, 0xFFFF]);
         } else {
             let sizes = [0, 1, 4, 128, 255, 257, 768, 1023, 4096, 0x8000, 0xFFFF];
             settings.stack_size = self.random.pick(&sizes);
@@ -207,10 +211,10 @@ impl Episode {
     fn aim(&mut self, state: &mut State, command: Command) {
         let settings = self.settings;
         if self.random.chance(16) {
-            self.flip(state, illegal_place(command));
+            self.flip(state, illegal_place(&settings, command));
         }
         if self.random.chance(16) {
-            self.flip(state, busy_place(command));
+            self.flip(state, busy_place(&settings, command));
         }
         if self.random.chance(16) {
             // Near the end of its block, where it wraps.

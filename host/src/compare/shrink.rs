@@ -74,6 +74,7 @@ impl<T: Clone + PartialEq, F: Fn(&T) -> bool> Shrinking<T, F> {
         for (_, switch) in Settings::SWITCHES {
             smaller |= self.take(|t| *switch(settings(t)) = false);
         }
+        smaller |= self.take(|t| settings(t).broadcast = true);
         smaller
     }
 

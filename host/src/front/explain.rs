@@ -73,7 +73,7 @@ fn accepted(replay: &Replay, owners: &Owners, record: &Record, answer: &Answer) 
     let (block_status, interrupt) = (answer.block_status, answer.interrupt);
     let said = say::block_status(block_status);
     lines.push(format!("block status {block_status:04X}: {said}"));
-    lines.push(status(answer, record));
+    lines.push(status(answer, &replay.settings, record));
     let said = say::interrupt(interrupt);
     lines.push(format!("interrupt word {interrupt:04X}: {said}"));
     lines
@@ -193,12 +193,12 @@ fn pointer(owners: &Owners, answer: &Answer, cell: &CellDescription) -> String {
     format!("the pointer of {name} {went} in {}{over}", scheme(cell))
 }
 
-fn status(answer: &Answer, record: &Record) -> String {
+fn status(answer: &Answer, settings: &Settings, record: &Record) -> String {
     let word = answer.status;
     if answer.answered {
         return format!("answered with status {word:04X}: {}", say::status(word));
     }
-    let why = if Command(record.command).is_broadcast() {
+    let why = if settings.is_broadcast(Command(record.command)) {
         "a broadcast is not answered"
     } else {
         "a faulty message is not answered"
@@ -221,7 +221,7 @@ pub fn why_refused(
         [high, low, ..] => Command(u16::from_be_bytes([*high, *low])),
         _ => Command(0),
     };
-    let reason = say::refusal(number);
+    let reason = say::refusal(number, settings);
     match number {
         5 => format!("{reason}: {}", say::layout_faults(bytes).join(" and ")),
         6 => format!("{reason}, which is {}", settings.address),

@@ -109,9 +109,9 @@ pub fn rolled_over(block_status: u16) -> bool {
 /// What a command asks: `terminal 5 receives 4 words at subaddress 3 (Anna)`.
 pub fn command(word: u16, settings: &Settings, owners: &Owners) -> String {
     let command = Command(word);
-    let ours = command.address() == settings.address || command.is_broadcast();
+    let ours = settings.is_ours(command);
     let who = match command.address() {
-        _ if command.is_broadcast() => "broadcast: every terminal".to_string(),
+        _ if settings.is_broadcast(command) => "broadcast: every terminal".to_string(),
         address => format!("terminal {address}"),
     };
     let what = match command.subaddress() {
@@ -202,11 +202,14 @@ pub fn bus(record: &Record) -> char {
 }
 
 /// Why a number refuses, as far as the number says it.
-pub fn refusal(number: u16) -> &'static str {
+pub fn refusal(number: u16, settings: &Settings) -> &'static str {
     match number {
         1 => "the RAM is not 4,096 words",
         2 => "the reply buffer is under 33 words",
-        3 => "the RT address is over 30, or the stack size is none of 256, 512, 1024, 2048",
+        3 if settings.broadcast => {
+            "the RT address is over 30, or the stack size is none of 256, 512, 1024, 2048"
+        }
+        3 => "the RT address is over 31, or the stack size is none of 256, 512, 1024, 2048",
         4 => "the record is not 80 bytes",
         5 => "the record breaks its layout",
         6 => "not for this terminal",

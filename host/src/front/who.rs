@@ -77,7 +77,7 @@ fn beyond(walk: &Walk, range: &Range<usize>) -> Option<u16> {
 }
 
 fn refused(source: &Source, number: u16) -> Problem {
-    let why = say::refusal(number);
+    let why = say::refusal(number, &source.settings);
     Problem::Input(format!("{}: refused with {number}: {why}", source.name))
 }
 

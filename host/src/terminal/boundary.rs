@@ -14,7 +14,7 @@ use super::records::RECORD_WORDS;
 use super::{carry_out, Answer, MessageRef, Record, Remembered, Settings};
 
 /// Words of the settings: see the header for each.
-pub const SETTINGS_WORDS: usize = 11;
+pub const SETTINGS_WORDS: usize = 12;
 /// Words of what is remembered.
 pub const REMEMBERED_WORDS: usize = 2;
 /// Words of a record value.
@@ -194,6 +194,8 @@ fn settings_of(words: &[u16]) -> Settings {
         service_request: yes(8),
         subsystem_flag: yes(9),
         terminal_flag: yes(10),
+        // Says that it is off, so that eleven words mean on.
+        broadcast: !yes(11),
     }
 }
 
@@ -210,6 +212,7 @@ pub fn settings_words(settings: &Settings) -> [u16; SETTINGS_WORDS] {
         settings.service_request.into(),
         settings.subsystem_flag.into(),
         settings.terminal_flag.into(),
+        (!settings.broadcast).into(),
     ]
 }
 

@@ -22,7 +22,7 @@ pub(super) struct Faults {
 
 impl Faults {
     /// The faults of a record whose command asks for so many words.
-    pub fn of<const PLANTED: u8>(record: &Record, word_count: u16) -> Faults {
+    pub fn of<const PLANTED: u8>(record: &Record, word_count: u16, broadcast: bool) -> Faults {
         let command = Command(record.command);
         let expected = if command.is_transmit() { 0 } else { word_count };
         // A flagged fault cuts the count short, so it says nothing more.
@@ -37,7 +37,7 @@ impl Faults {
             no_status: record.has_flag(FLAG_NO_STATUS),
             gap: record.has_flag(FLAG_GAP),
             second: record.has_flag(FLAG_SECOND),
-            contents: command.is_broadcast() && command.is_transmit(),
+            contents: broadcast && command.is_transmit(),
         }
     }
 

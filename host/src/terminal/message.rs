@@ -132,7 +132,7 @@ fn perform<const PLANTED: u8>(
     let (stack, cell) = locate(ram, settings, command)?;
     let judged = Judged::new::<PLANTED>(ram, settings, record);
     let status = status_word(&judged, settings);
-    let answered = judged.is_valid() && !command.is_broadcast();
+    let answered = judged.is_valid() && !judged.broadcast;
     if answered {
         reply[0] = status;
     }
@@ -183,7 +183,7 @@ pub(super) fn locate(
 
 /// Tests 6 and 7: whether the command is one for this terminal's cells.
 fn check_command(command: Command, settings: &Settings) -> Result<(), u16> {
-    if command.address() != settings.address && !command.is_broadcast() {
+    if !settings.is_ours(command) {
         return Err(refusal::ADDRESS);
     }
     match command.subaddress() {
@@ -196,7 +196,7 @@ fn check_command(command: Command, settings: &Settings) -> Result<(), u16> {
 pub fn cell_kind(command: Command, settings: &Settings) -> Kind {
     if command.is_transmit() {
         Kind::Transmit
-    } else if command.is_broadcast() && settings.separate_broadcast {
+    } else if settings.is_broadcast(command) && settings.separate_broadcast {
         Kind::Broadcast
     } else {
         Kind::Receive
@@ -208,6 +208,7 @@ pub(super) struct Judged {
     command: Command,
     /// Data words that the command asks for.
     word_count: u16,
+    broadcast: bool,
     faults: Faults,
     illegal: bool,
     busy: bool,
@@ -225,12 +226,14 @@ impl Judged {
         } else {
             command.word_count()
         };
+        let broadcast = settings.is_broadcast(command);
         Judged {
             command,
             word_count,
-            faults: Faults::of::<PLANTED>(record, word_count),
-            illegal: is_illegal(ram, command),
-            busy: settings.busy_always || is_marked_busy(ram, command),
+            broadcast,
+            faults: Faults::of::<PLANTED>(record, word_count, broadcast),
+            illegal: is_illegal(ram, settings, command),
+            busy: settings.busy_always || is_marked_busy(ram, settings, command),
         }
     }
 
@@ -424,7 +427,7 @@ fn status_word(judged: &Judged, settings: &Settings) -> u16 {
     (settings.address << 11)
         | bit(10, !judged.is_valid() || judged.illegal)
         | bit(8, settings.service_request)
-        | bit(4, judged.command.is_broadcast())
+        | bit(4, judged.broadcast)
         | bit(3, judged.busy)
         | bit(2, settings.subsystem_flag)
         | bit(0, settings.terminal_flag)

@@ -1,6 +1,7 @@
 //! The proved terminal, called through its boundary. Needs the feature
 //! `engine`.
 
+mod broadcast;
 mod labels;
 mod page;
 mod soundness;

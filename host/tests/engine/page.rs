@@ -267,7 +267,7 @@ fn source(image: &[u16], settings: Settings, records: &[[u8; 80]]) -> Source {
 /// Holds a page against what was played; returns how many cells had a section.
 fn check_page(played: &Played, unsound: &[u16], page: &str) -> usize {
     let mut sections = 0;
-    let kinds = if played.settings.separate_broadcast {
+    let kinds = if played.settings.has_broadcast_cells() {
         3
     } else {
         2

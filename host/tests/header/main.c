@@ -205,6 +205,41 @@ static void an_old_caller(void)
     assert(bytes[2] == 0 && bytes[3] == 0 && bytes[6] == SOLKVERVA_TRANSFER);
 }
 
+/* The example as a message to address 31, to a terminal with this address and so many words of settings. */
+static uint16_t at_31(uint16_t address, size_t settings_words)
+{
+    settings[0] = address;
+    memset(answer, 0xEE, sizeof answer);
+    return solkverva_message(ram, SOLKVERVA_RAM_WORDS, reply, SOLKVERVA_REPLY_WORDS, settings, settings_words,
+                             remembered, REMEMBERED, bytes, sizeof bytes, answer, ANSWER);
+}
+
+/* Twelve words can turn broadcast off; eleven, which were all there were, have it on. */
+static void broadcast_on_and_off(void)
+{
+    enum { ELEVEN = 11, ALL = SOLKVERVA_SETTINGS_WORDS, OFF = 11, SEPARATE = 4 };
+
+    start();
+    bytes[0] = 0xF8;
+    settings[OFF] = 1;
+    assert(at_31(5, ELEVEN) == SOLKVERVA_DONE && answer[5] == 0x2810 && answer[6] == 0);
+    assert(at_31(31, ELEVEN) == SOLKVERVA_BAD_SETTINGS);
+    assert(at_31(5, ALL) == SOLKVERVA_OTHER_ADDRESS);
+    assert(at_31(32, ALL) == SOLKVERVA_BAD_SETTINGS);
+    assert(at_31(31, ALL) == SOLKVERVA_DONE && answer[5] == 0xF800 && answer[6] == 1 && reply[0] == 0xF800);
+    /* Broadcast cells are not there: with them, this one would point to the stack. */
+    settings[SEPARATE] = 1;
+    assert(at_31(31, ALL) == SOLKVERVA_DONE && answer[2] == 3);
+    bytes[0] = 0xFC;
+    bytes[1] = 0x62;
+    memset(bytes + 7, 0, sizeof bytes - 7);
+    assert(at_31(31, ALL) == SOLKVERVA_DONE && answer[1] == 0x8000 && answer[7] == 2 && reply[2] == 0xBBBB);
+    settings[OFF] = 0;
+    assert(at_31(31, ALL) == SOLKVERVA_BAD_SETTINGS);
+    assert(at_31(5, ALL) == SOLKVERVA_DONE && answer[1] == 0x9401 && answer[7] == 0);
+    settings[SEPARATE] = 0;
+}
+
 static void the_whole_area(void)
 {
     const uint32_t unsound = (uint32_t)SOLKVERVA_UNSOUND_CELL << 16 | 1;
@@ -396,6 +431,7 @@ int main(void)
     each_number();
     a_transfer();
     an_old_caller();
+    broadcast_on_and_off();
     the_whole_area();
     the_labels();
     refused_labels();

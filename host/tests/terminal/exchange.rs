@@ -35,9 +35,9 @@ fn every_class_occurs_and_all_is_as_said() {
 fn every_condition_matters() {
     for forgotten in Forgotten::CONDITIONS {
         let list = found(&GOOD, forgotten).expect(forgotten.name());
-        // One may be there to move a pointer to where the others show it.
+        // One or two may be there to move a pointer to where the others show it.
         let messages = list.messages.len();
-        assert!((2..=3).contains(&messages), "{}", write_list(&list));
+        assert!((2..=4).contains(&messages), "{}", write_list(&list));
         assert_eq!(list.exchanges, [messages - 2]);
         let objection = list.objection(&GOOD, Forgotten::Nothing).unwrap();
         let (a, b) = (messages - 1, messages);

@@ -127,7 +127,7 @@ fn illegal_bit_of_32_words() {
         word: 0x0386,
         bit: 0,
     };
-    assert_eq!(illegal_place(Command(0x2860)), expected);
+    assert_eq!(illegal_place(&Settings::TRACE, Command(0x2860)), expected);
 }
 
 /// All status bits of the settings together.
@@ -605,7 +605,8 @@ fn busy_places() {
         (0xF800, 0x0240, 0),
         (0xFFE0, 0x0243, 15),
     ] {
-        assert_eq!(busy_place(Command(command)), BitPlace { word, bit });
+        let place = busy_place(&Settings::TRACE, Command(command));
+        assert_eq!(place, BitPlace { word, bit });
     }
 }
 

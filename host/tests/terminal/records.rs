@@ -12,15 +12,12 @@ fn command_fields() {
     assert!(!command.is_transmit());
     assert_eq!(command.subaddress(), 3);
     assert_eq!(command.word_count(), 4);
-    assert!(!command.is_broadcast());
 
     let last = Command(0xFFFF);
     assert_eq!(last.address(), 31);
     assert!(last.is_transmit());
     assert_eq!(last.subaddress(), 31);
     assert_eq!(last.word_count(), 31);
-    assert!(last.is_broadcast());
-    assert!(!Command(0xF7FF).is_broadcast());
 }
 
 #[test]

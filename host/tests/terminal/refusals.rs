@@ -308,7 +308,8 @@ fn no_other_case_is_refused() {
         let record = random.record(terminal.settings.address);
         let address = record.command >> 11;
         let sub = record.command >> 5 & 31;
-        let expected = if address != terminal.settings.address && address != 31 {
+        let broadcast = terminal.settings.broadcast && address == 31;
+        let expected = if address != terminal.settings.address && !broadcast {
             6
         } else if sub == 0 || sub == 31 {
             7

@@ -18,7 +18,7 @@ impl Accepted<'_> {
     }
 
     fn is_broadcast(&self) -> bool {
-        self.record.command >> 11 == 31
+        self.before.settings.broadcast && self.record.command >> 11 == 31
     }
 
     fn subaddress(&self) -> usize {

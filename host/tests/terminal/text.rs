@@ -247,6 +247,17 @@ fn settings_and_owners() {
     assert_eq!(owners, [(3, "Bert"), (19, "Anna Karlsson")]);
     assert_eq!(read.owners.of(4), None);
 
+    let off =
+        read_text(b"settings address 31 area A stack 256 broadcast off busy-always\n").unwrap();
+    let expected = Settings {
+        address: 31,
+        overwrite_invalid: false,
+        busy_always: true,
+        broadcast: false,
+        ..Settings::TRACE
+    };
+    assert_eq!(off.settings, Some(expected));
+
     let without = read_text(b"ram 0 1234\n").unwrap();
     assert_eq!(without.settings, None);
     assert!(without.owners.is_empty());
@@ -282,6 +293,14 @@ fn errors_in_settings_and_owners() {
             (
                 "settings address 5 area A stack 256 loud",
                 "found \"loud\", expected one of overwrite-invalid, ",
+            ),
+            (
+                "settings address 31 area A stack 256 broadcast",
+                "found the end of the line, expected off",
+            ),
+            (
+                "settings address 31 area A stack 256 broadcast on",
+                "found \"on\", expected off",
             ),
             ("owner", "found the end of the line, expected a subaddress"),
             ("owner 31 Bert", "found \"31\", expected a subaddress"),

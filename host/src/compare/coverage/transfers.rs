@@ -10,11 +10,16 @@ use crate::terminal::records::{
 };
 use crate::terminal::refusal;
 use crate::terminal::words::Command;
-use crate::terminal::Answer;
+use crate::terminal::{Answer, Settings};
 
 impl Coverage {
     /// Takes in an accepted record.
-    pub(super) fn take_in_transfer(&mut self, record: &Record, answer: &Answer) {
+    pub(super) fn take_in_transfer(
+        &mut self,
+        settings: &Settings,
+        record: &Record,
+        answer: &Answer,
+    ) {
         use Class::*;
         if !record.is_transfer() {
             return;
@@ -22,7 +27,10 @@ impl Coverage {
         let faults = (record.flags & TRANSFER_FAULTS).count_ones();
         let data_fault = record.has_flag(FLAG_WRONG_SYNC | FLAG_INVALID_WORD);
         self.note(GoodTransfer, answer.block_status & 0x1000 == 0);
-        self.note(BroadcastTransfer, Command(record.command).is_broadcast());
+        self.note(
+            BroadcastTransfer,
+            settings.is_broadcast(Command(record.command)),
+        );
         self.note(TransferFromZero, record.transmit_command == 0);
         self.note(TransferCount, answer.block_status & 0x0020 != 0);
         self.note(TransferData, data_fault && faults == 0);

@@ -166,7 +166,7 @@ impl Board {
 
     /// The cells of a subaddress.
     pub fn cells_of(&self, subaddress: u16) -> Vec<u16> {
-        let separate = self.settings().separate_broadcast;
+        let separate = self.settings().has_broadcast_cells();
         let kinds = KINDS.into_iter();
         kinds
             .filter(|&kind| kind != Kind::Broadcast || separate)
