@@ -1,5 +1,5 @@
 /* The proved terminal, for callers in C and Rust. scripts/proved library builds what to link, for x86-64:
- * built/target/staticlib/libboundary.a.
+ * target/built/target/staticlib/libboundary.a.
  *
  * Every function returns, with an answer for any contents and any lengths of what is lent, and writes nothing else.
  *
