@@ -3,4 +3,5 @@ pub mod Contained
 pub mod StatusBits
 pub mod Before
 pub mod BroadcastOff
+pub mod Failing
 pub mod Determined

@@ -1,12 +1,12 @@
 -- Words put over others from the last to the first stand as those put in turn.
 use Prim.Native.Nat.{ℕ, suc, _+_, _<_}
-use native.Mathlib.Nat.{add-zero}
 use native.Mathlib.Numerals.{unary-clauses}
 use native.Mathlib.Omega.{arith}
 use mathlib.Core.Path.{_≡_, refl, _∙_}
 use mathlib.Core.List.{List, [], _∷_, _++_}
 use lib.ListN.{length, set}
 use lib.Seq.{sets, set-comm}
+use Rattle.words.proofs.Runs.{sets-append}
 
 -- the words of ys from place i on, the last of them first
 abbrev back : List ℕ → ℕ → List ℕ → List ℕ
@@ -23,18 +23,11 @@ sets-back : (xs ys : List ℕ) (i : ℕ) → sets xs i ys ≡ back xs i ys
 sets-back xs [] i = refl
 sets-back xs (y ∷ ys) i = set-later xs ys i (suc i) y (omega arith) ∙ rw (sets-back xs ys (suc i))
 
--- a word behind others
-put-behind : (xs ys : List ℕ) (i a : ℕ) → sets xs i (ys ++ (a ∷ [])) ≡ set (sets xs i ys) (i + length ys) a
-put-behind xs [] i a = rw add-zero
-put-behind xs (y ∷ ys) i a =
-    let e : i + suc (length ys) ≡ suc i + length ys = omega arith in
-    rw e (put-behind (set xs i y) ys (suc i) a)
-
 -- the words of a value: four, thirty-two, and one behind them
 pub value-put :
     (xs words : List ℕ) (a b c d e : ℕ) → length words ≡ 32 →
     set (sets (sets xs 0 (a ∷ b ∷ c ∷ d ∷ [])) 4 words) 36 e ≡ sets xs 0 (a ∷ b ∷ c ∷ d ∷ (words ++ (e ∷ [])))
-value-put xs words a b c d e h = rw (put-behind (sets xs 0 (a ∷ b ∷ c ∷ d ∷ [])) words 4 e, h)
+value-put xs words a b c d e h = rw h at (sets-append (sets xs 0 (a ∷ b ∷ c ∷ d ∷ [])) words (e ∷ []) 4)
 
 pub two-back : (xs : List ℕ) (a b : ℕ) → sets xs 0 (a ∷ b ∷ []) ≡ set (set xs 1 b) 0 a
 two-back xs a b = sets-back xs (a ∷ b ∷ []) 0

@@ -1,4 +1,5 @@
 pub mod Turns
 pub mod Rules
 pub mod Before
+pub mod Failing
 pub mod Determined

@@ -10,7 +10,8 @@ use lib.Seq.{sets}
 use borrow.Author.Tests.{lt-ltb, le-ltb}
 use Rattle.words.proofs.Basics.{lt-or-ge}
 use Rattle.text.specs.Text.{digits, placesUpTo, decimalText}
-use Rattle.text.proofs.Runs.{sets-append, set-behind}
+use Rattle.words.proofs.Runs.{sets-append}
+use Rattle.text.proofs.Runs.{set-behind}
 
 pub length-digits : (k n : ℕ) → length (digits k n) ≡ k
 unfolding digits

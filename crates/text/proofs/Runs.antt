@@ -1,6 +1,5 @@
 -- Runs of bytes put into a buffer: one after the other, byte by byte, and apart.
 use Prim.Native.Nat.{ℕ, suc, _+_, _-_, _/_, _%_, _^_, _<_, _≤_}
-use native.Mathlib.Nat.{add-zero}
 use native.Mathlib.Numerals.{add-one}
 use native.Mathlib.Omega.{arith}
 use mathlib.Core.Path.{_≡_, refl}
@@ -9,15 +8,8 @@ use mathlib.Core.List.{List, [], _∷_, _++_}
 use lib.ListN.{length, getD, set, take, length-append}
 use lib.Seq.{sets, take-suc, set-comm, set-out, length-take-le}
 use Rattle.words.proofs.Basics.{lt-or-ge}
+use Rattle.words.proofs.Runs.{sets-append}
 use Rattle.text.specs.Text.{hexDigit, hexText, placeAfter, Put, PutFirst}
-
--- two runs, the second from where the first ends, are their append
-pub sets-append :
-    (l xs ys : List ℕ) (at : ℕ) → sets (sets l at xs) (at + length xs) ys ≡ sets l at (xs ++ ys)
-sets-append l [] ys at = rw add-zero
-sets-append l (x ∷ xs) ys at =
-    let e : at + suc (length xs) ≡ suc at + length xs = omega arith in
-    rw e (sets-append (set l at x) xs ys (suc at))
 
 -- a run of one more byte
 pub sets-more :

@@ -4,5 +4,6 @@ pub mod Refusals
 pub mod Commands
 pub mod SettingsLaws
 pub mod Fill
+pub mod Runs
 pub mod Settled
 pub mod Determined
