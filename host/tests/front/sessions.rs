@@ -57,6 +57,11 @@ fn run_prints_what_is_stored() {
 }
 
 #[test]
+fn broadcast_prints_what_is_stored() {
+    holds("broadcast");
+}
+
+#[test]
 fn check_prints_what_is_stored() {
     holds("check");
 }
