@@ -1,5 +1,5 @@
--- Why a cell or the stack is unsound: a bit for each part of the sentence that does not hold, in the sentence's order. No bit is set
--- exactly where it is sound (proofs/Sound.antt).
+-- Why a cell or the stack is unsound: a bit for each part of the sentence that does not hold, in the sentence's order.
+-- No bit is set exactly where it is sound (proofs/Sound.antt).
 use Prim.Native.Nat.{ℕ, _+_, _*_, _%_}
 use mathlib.Core.Bool.{Bool, false, not}
 use mathlib.Core.List.{List}
@@ -24,8 +24,8 @@ lowArea = runFrom 0x100 0x148
 abbrev pub highArea : Window
 highArea = runFrom 0x300 0x100
 
--- "A cell is sound if its pointer and window lie in 0000-0FFF, a double pointer is a multiple of 32, and the window meets
--- neither a fixed area nor the active stack."
+-- "A cell is sound if its pointer and window lie in 0000-0FFF, a double pointer is a multiple of 32, and the window
+-- meets neither a fixed area nor the active stack."
 unfoldable pub cellFaults : ℕ → Window → Cell → ℕ
 cellFaults words stack c =
     faultsOf
@@ -36,8 +36,8 @@ cellFaults words stack c =
     (windowsMeet (cellWindow c) highArea)
     (windowsMeet (cellWindow c) stack)
 
--- "The stack is sound if its pointer is a multiple of 4, at most 0FFC, and the block aligned to the stack size around it
--- lies in RAM and meets no fixed area." 0FFC is four below the RAM's length.
+-- "The stack is sound if its pointer is a multiple of 4, at most 0FFC, and the block aligned to the stack size around
+-- it lies in RAM and meets no fixed area." 0FFC is four below the RAM's length.
 unfoldable pub stackFaults : List ℕ → Settings → ℕ
 stackFaults ram s =
     faultsOf

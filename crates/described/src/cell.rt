@@ -13,8 +13,8 @@ use label::cell::is_read;
 use memory::kind::kind_number;
 use words::settings::Settings;
 
-// The number that refuses, or 0; then what the cell is: whether the whole-area check reads it, its scheme (1 single, 2 double,
-// 3 circular), its pointer, where its window starts and how many words it has, and its faults.
+// The number that refuses, or 0; then what the cell is: whether the whole-area check reads it, its scheme (1 single,
+// 2 double, 3 circular), its pointer, where its window starts and how many words it has, and its faults.
 pub struct CellDescription {
     pub number: u16,
     pub kind: u16,

@@ -40,8 +40,8 @@ fn double_misses(scheme: Scheme, pointer: u16) -> bool
     }
 }
 
-// Of a cell: 1 its pointer is outside RAM, 2 its window goes over RAM's end, 4 its double pointer is no multiple of 32, 8 its window meets
-// the fixed area 0100-0247, 16 that of 0300-03FF, 32 the active stack.
+// Of a cell: 1 its pointer is outside RAM, 2 its window goes over RAM's end, 4 its double pointer is no multiple of 32,
+// 8 its window meets the fixed area 0100-0247, 16 that of 0300-03FF, 32 the active stack.
 pub fn cell_faults(words: usize, stack: Window, c: Cell) -> u16
     ensures { λ r. ⌜ r ≡ cellFaults words stack c ⌝ }
 {
@@ -61,7 +61,8 @@ pub fn cell_faults(words: usize, stack: Window, c: Cell) -> u16
     )
 }
 
-// Of the stack: 1 its pointer is no multiple of 4, 2 it is over 0FFC, 4 its block goes over RAM's end, 8 and 16 its block meets a fixed area.
+// Of the stack: 1 its pointer is no multiple of 4, 2 it is over 0FFC, 4 its block goes over RAM's end, 8 and 16 its
+// block meets a fixed area.
 pub fn stack_faults(ram: &[u16], s: Settings) -> u16
     ensures { λ r. ⌜ r ≡ stackFaults (now (ram .entry)) s ⌝ }
 {

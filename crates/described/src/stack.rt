@@ -7,7 +7,8 @@ use cells::stack::stack_pointer;
 use cells::stack::stack_window;
 use words::settings::Settings;
 
-// The number that refuses, or 0; then the stack pointer, where its block starts and how many words it has, and its faults.
+// The number that refuses, or 0; then the stack pointer, where its block starts and how many words it has, and its
+// faults.
 pub struct StackDescription {
     pub number: u16,
     pub pointer: u16,

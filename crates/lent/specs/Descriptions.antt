@@ -5,7 +5,8 @@ use Rattle.words.specs.Bits.{bitOf}
 use Rattle.described.specs.declared.cell.CellDescription.{CellDescription}
 use Rattle.described.specs.declared.stack.StackDescription.{StackDescription}
 
--- eight words: kind, subaddress, 1 where the whole-area check reads the cell or 0, scheme; then where it lies, and its faults
+-- eight words: kind, subaddress, 1 where the whole-area check reads the cell or 0, scheme; then where it lies, and its
+-- faults
 unfoldable pub cellWords : CellDescription → List ℕ
 cellWords d =
     d .kind
