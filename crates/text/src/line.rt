@@ -13,11 +13,8 @@ use message::answer::Answer;
 pub fn put_newline(out: &mut [u8], at: usize) -> usize
     ensures { λ r. ⌜ Put (now (out .entry)) at newline (now (out .exit)) r ⌝ }
 {
-    if out.len() <= at {
-        return after(at, 1);
-    }
     put_byte(out, at, 10);
-    at + 1
+    after(at, 1)
 }
 
 // A stored word at the start of a line.
@@ -35,12 +32,13 @@ pub fn put_hex_word(out: &mut [u8], at: usize, w: u16) -> usize
 fn put_word(out: &mut [u8], at: usize, w: u16) -> usize
     ensures { λ r. ⌜ Put (now (out .entry)) at (column (hexText w)) (now (out .exit)) r ⌝ }
 {
-    if out.len() <= at {
-        return after(at, 5);
+    if at < out.len() {
+        put_byte(out, at, 32);
+        put_hex(out, at + 1, w);
+        at + 5
+    } else {
+        after(at, 5)
     }
-    put_byte(out, at, 32);
-    put_hex(out, at + 1, w);
-    at + 5
 }
 
 // A column of a number.
@@ -48,12 +46,13 @@ pub fn put_number(out: &mut [u8], at: usize, n: u64) -> usize
     ensures { λ r. ⌜ Put (now (out .entry)) at (column (decimalText n)) (now (out .exit)) r ⌝ }
 {
     let k = places(n);
-    if out.len() <= at {
-        return after(at, 1 + k);
+    if at < out.len() {
+        put_byte(out, at, 32);
+        put_digits(out, at + 1, k, n);
+        at + (1 + k)
+    } else {
+        after(at, 1 + k)
     }
-    put_byte(out, at, 32);
-    put_digits(out, at + 1, k, n);
-    at + (1 + k)
 }
 
 // The status column: the word, or "none" where none was sent.

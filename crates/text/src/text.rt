@@ -91,9 +91,10 @@ pub(crate) fn put_decimal(out: &mut [u8], at: usize, n: u64) -> usize
     ensures { λ r. ⌜ Put (now (out .entry)) at (decimalText n) (now (out .exit)) r ⌝ }
 {
     let k = places(n);
+    let next = after(at, k);
     if out.len() <= at {
-        return after(at, k);
+        return next;
     }
     put_digits(out, at, k, n);
-    at + k
+    next
 }

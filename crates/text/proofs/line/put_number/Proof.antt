@@ -10,18 +10,6 @@ use Rattle.text.proofs.line.put_number.Tie as tie
 places-requires : tie.Need-places-requires
 places-requires c κs = search needs
 
-add-after : tie.Need-add-after
-add-after c = search needs
-
-after-requires : tie.Need-after-requires
-after-requires c κs = search needs
-
-returns : tie.Need-returns
-returns c =
-    let far = c .before in
-    put-out (omega arith) (far .if1 .taken)
-    (rw (length-decimal, ← (far .before .places .ensures .0)) (omega (arith, c .after .ensures)))
-
 put-byte-requires : tie.Need-put-byte-requires
 put-byte-requires c κs = search needs
 
@@ -37,12 +25,18 @@ add-result c = search needs
 add-result-2 : tie.Need-add-result-2
 add-result-2 c = search needs
 
+add-after : tie.Need-add-after
+add-after c = search needs
+
+after-requires : tie.Need-after-requires
+after-requires c κs = search needs
+
 same-length : tie.Need-same-length
 same-length c = search needs
 
-returns-2 : tie.Need-returns-2
+returns : tie.Need-returns
 unfolding decimalText
-returns-2 c =
+returns c =
     let digits = c .before .before in
     let space = digits .before .before .before .before in
     let counted = space .before .before .before .places in
@@ -51,18 +45,24 @@ returns-2 c =
     (rw (digits .put-digits .ensures, k))
     (omega arith)
 
+returns-2 : tie.Need-returns-2
+returns-2 c =
+    let far = c .before in
+    put-out (omega arith) (far .if1 .left)
+    (rw (length-decimal, ← (far .before .places .ensures .0)) (omega (arith, c .after .ensures)))
+
 pub put-number-spec : {M : Type 1} → statement M
 put-number-spec =
     tie.close
     (tie.spec
     places-requires
-    add-after
-    after-requires
-    returns
     put-byte-requires
     add-put-digits
     put-digits-requires
     add-result
     add-result-2
+    add-after
+    after-requires
     same-length
+    returns
     returns-2)

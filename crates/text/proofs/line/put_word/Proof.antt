@@ -5,12 +5,6 @@ use Rattle.text.proofs.Runs.{length-hex, put-out, column-here}
 use Rattle.text.proofs.line.put_word.Statement.{statement}
 use Rattle.text.proofs.line.put_word.Tie as tie
 
-after-requires : tie.Need-after-requires
-after-requires c κs = search needs
-
-returns : tie.Need-returns
-returns c = put-out (omega arith) (c .before .if1 .taken) (rw length-hex (c .after .ensures))
-
 put-byte-requires : tie.Need-put-byte-requires
 put-byte-requires c κs = search needs
 
@@ -23,26 +17,32 @@ put-hex-requires c κs = search needs
 add-result : tie.Need-add-result
 add-result c = search needs
 
+after-requires : tie.Need-after-requires
+after-requires c κs = search needs
+
 same-length : tie.Need-same-length
 same-length c = search needs
 
-returns-2 : tie.Need-returns-2
-returns-2 c =
+returns : tie.Need-returns
+returns c =
     let digits = c .before .before in
     column-here 4 (omega arith) (omega arith) (length-hex _)
     (digits .before .before .before .before .put-byte .ensures)
     (digits .put-hex .ensures)
     (omega arith)
 
+returns-2 : tie.Need-returns-2
+returns-2 c = put-out (omega arith) (c .before .if1 .left) (rw length-hex (c .after .ensures))
+
 pub put-word-spec : {M : Type 1} → statement M
 put-word-spec =
     tie.close
     (tie.spec
-    after-requires
-    returns
     put-byte-requires
     add-put-hex
     put-hex-requires
     add-result
+    after-requires
     same-length
+    returns
     returns-2)

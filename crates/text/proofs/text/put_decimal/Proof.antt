@@ -2,7 +2,7 @@
 use native.Mathlib.Omega.{arith}
 use borrow.Author.Needs.{needs}
 use Rattle.text.specs.Text.{decimalText}
-use Rattle.text.proofs.Runs.{put-out, put-here}
+use Rattle.text.proofs.Runs.{put-out}
 use Rattle.text.proofs.Numerals.{length-digits, length-decimal}
 use Rattle.text.proofs.text.put_decimal.Statement.{statement}
 use Rattle.text.proofs.text.put_decimal.Tie as tie
@@ -15,14 +15,12 @@ after-requires c κs = search needs
 
 returns : tie.Need-returns
 returns c =
-    put-out (omega arith) (c .before .if1 .taken)
-    (rw (length-decimal, ← (c .before .before .places .ensures .0)) (c .after .ensures))
+    let counted = c .before .before in
+    put-out (omega arith) (c .if1 .taken)
+    (rw (length-decimal, ← (counted .places .ensures .0)) (c .before .after .ensures))
 
 put-digits-requires : tie.Need-put-digits-requires
 put-digits-requires c κs = search needs
-
-add-result : tie.Need-add-result
-add-result c = search needs
 
 same-length : tie.Need-same-length
 same-length c = search needs
@@ -30,20 +28,15 @@ same-length c = search needs
 returns-2 : tie.Need-returns-2
 unfolding decimalText
 returns-2 c =
-    let k = c .before .before .before .before .before in
-    let e = k .places .ensures .0 in
-    put-here (omega arith) (rw (length-digits, ← e) (omega arith))
-    (rw (c .before .before .put-digits .ensures, e))
-    (rw (length-digits, e))
+    let next = c .before .before .before .before .before in
+    let e = next .before .places .ensures .0 in
+    record {
+      short = omega arith;
+      bytes = rw (c .before .before .put-digits .ensures, e);
+      place = rw (length-digits, ← e) (next .after .ensures);
+    }
 
 pub put-decimal-spec : {M : Type 1} → statement M
 put-decimal-spec =
     tie.close
-    (tie.spec
-    places-requires
-    after-requires
-    returns
-    put-digits-requires
-    add-result
-    same-length
-    returns-2)
+    (tie.spec places-requires after-requires returns put-digits-requires same-length returns-2)
