@@ -48,7 +48,7 @@ fn archive_folder() -> PathBuf {
         Some(folder) => PathBuf::from(folder),
         None => {
             let package = env::var_os("CARGO_MANIFEST_DIR").unwrap_or_default();
-            Path::new(&package).join("../built/target/staticlib")
+            Path::new(&package).join("../target/built/target/staticlib")
         }
     }
 }

@@ -1,5 +1,5 @@
-/* The proved terminal, for callers in C and Rust. scripts/library builds what to link: target/staticlib/libboundary.a,
- * for x86-64.
+/* The proved terminal, for callers in C and Rust. scripts/proved library builds what to link, for x86-64:
+ * built/target/staticlib/libboundary.a.
  *
  * Every function returns, with an answer for any contents and any lengths of what is lent, and writes nothing else.
  *
@@ -19,9 +19,11 @@
  *
  * settings: RT address; area (0 is A, any other word B); stack size in words; then yes/no (0 is no): overwrite-invalid,
  *   separate-broadcast, illegal-receive-disable, busy-receive-disable, busy-always, service request, subsystem flag,
- *   terminal flag.
+ *   terminal flag, broadcast off. With eleven words, as there were before, broadcast is on. Where it is off, 31 is an
+ *   address like the others, no message is a broadcast, and separate-broadcast has no effect.
  * remembered: last command, last status. Both 0 at first; lend each message what the one before left.
- * value: command, time tag, flags, count, thirty-two words. A flags or count word over 255 counts as 255.
+ * value: command, time tag, flags, count, thirty-two words, transmit command. A flags or count word over 255 counts as
+ *   255, which breaks the layout.
  * answer: number, block status, cell number, pointer before, pointer after, status word, 1 where the status was sent
  *   and else 0, data words sent, interrupt word.
  * listing: how many cells are listed; then two words for each, in rising number: the cell's number, and 1 where it is
@@ -44,6 +46,20 @@
  *   message or of a stack word in its descriptor, else 0.
  *
  * A cell's number is its subaddress, with 32 added to transmit and 64 for broadcast.
+ *
+ * RT-to-RT transfers: a record with SOLKVERVA_TRANSFER is a message that another terminal sent to this one. Its bytes
+ * 2-3, the last word of a value, hold the command that the other had; any word may stand there, it is not judged and
+ * not stored. SOLKVERVA_NO_STATUS, SOLKVERVA_WRONG_GAP and SOLKVERVA_BAD_SECOND say what went wrong before the first
+ * data word, alone or together. A record breaks its layout (5) with SOLKVERVA_TRANSFER on a transmit command, with one
+ * of these three or a transmit command but no SOLKVERVA_TRANSFER, or with one of the three and a count that is not 0.
+ *
+ * A caller built before there were transfers lends values of 36 words. What still holds: those words are where they
+ * were, records and values with flags of 0 to 7 get the answers that they got, and the transmit command of a value of
+ * 36 words is read as 0 and not written. What to change, where records may hold transfers:
+ *   - Lend 37 words, SOLKVERVA_VALUE_WORDS; with 36 a transfer that is read and written again loses its transmit
+ *     command.
+ *   - The reader and the messages accept flags 8 to 127 by the rules above, where they answered 5.
+ *   - Bits 11, 9, 2 and 1 of block status, which were always 0, tell the transfer and its three faults.
  */
 #ifndef SOLKVERVA_H
 #define SOLKVERVA_H
@@ -59,9 +75,9 @@ extern "C" {
 enum {
     SOLKVERVA_RAM_WORDS = 4096,
     SOLKVERVA_REPLY_WORDS = 33,
-    SOLKVERVA_SETTINGS_WORDS = 11,
+    SOLKVERVA_SETTINGS_WORDS = 12,
     SOLKVERVA_REMEMBERED_WORDS = 2,
-    SOLKVERVA_VALUE_WORDS = 36,
+    SOLKVERVA_VALUE_WORDS = 37,
     SOLKVERVA_ANSWER_WORDS = 9,
     SOLKVERVA_LISTING_WORDS = 179, /* the most: how many, and two for each of 89 cells */
     SOLKVERVA_COUNTS_WORDS = 2,
@@ -73,6 +89,17 @@ enum {
     SOLKVERVA_RECORD_BYTES = 80
 };
 
+/* Flags of a record, added up. 128 is none. */
+enum {
+    SOLKVERVA_BUS_B = 1,
+    SOLKVERVA_WRONG_SYNC = 2,
+    SOLKVERVA_INVALID_WORD = 4,
+    SOLKVERVA_TRANSFER = 8,   /* an RT-to-RT transfer, in which this terminal receives */
+    SOLKVERVA_NO_STATUS = 16, /* of a transfer: the transmitter gave no status */
+    SOLKVERVA_WRONG_GAP = 32, /* of a transfer: a wrong gap, sync or address in that status */
+    SOLKVERVA_BAD_SECOND = 64 /* of a transfer: a bad second command */
+};
+
 /* The numbers, tested in this order: each function tests those about things that it is given, and the first that holds
  * is its answer. With a refusal RAM, reply, remembered, pairs, numbers, marks and records keep their contents, and all
  * else that is handed back is zero (but for the cell that the whole-area check adds to 9). */
@@ -80,10 +107,10 @@ enum {
     SOLKVERVA_DONE = 0,
     SOLKVERVA_RAM_LENGTH = 1,      /* RAM is not 4,096 words */
     SOLKVERVA_REPLY_ROOM = 2,      /* reply buffer under 33 words */
-    SOLKVERVA_BAD_SETTINGS = 3,    /* RT address over 30, or stack size not 256, 512, 1,024 or 2,048 */
+    SOLKVERVA_BAD_SETTINGS = 3,    /* RT address over 30 (31 with broadcast off), or stack size none of the four */
     SOLKVERVA_RECORD_LENGTH = 4,   /* record is not 80 bytes */
     SOLKVERVA_RECORD_LAYOUT = 5,   /* record breaks its layout */
-    SOLKVERVA_OTHER_ADDRESS = 6,   /* not own address and not 31 */
+    SOLKVERVA_OTHER_ADDRESS = 6,   /* not own address, and not 31 with broadcast on */
     SOLKVERVA_MODE_SUBADDRESS = 7, /* subaddress 0 or 31 */
     SOLKVERVA_UNSOUND_STACK = 8,   /* stack unsound */
     SOLKVERVA_UNSOUND_CELL = 9,    /* the message's cell unsound, or a cell of the area, or the cell that is asked for */

@@ -3,7 +3,9 @@
 pub mod boundary;
 pub mod cells;
 pub mod described;
+mod faults;
 pub mod label;
+pub mod layout;
 pub mod message;
 pub mod planted;
 pub mod records;
@@ -18,6 +20,6 @@ pub mod writes;
 pub use cells::check_area;
 pub use message::{carry_out, carry_out_planted, Answer, MessageRef, Remembered};
 pub use planted::Planted;
-pub use records::{read_record, write_record, Record};
+pub use records::{read_record, read_record_planted, write_record, write_record_planted, Record};
 pub use settings::Settings;
 pub use trace::{stream_trace, trace_output};

@@ -7,6 +7,7 @@ use mathlib.Core.Bool.{Bool, true, false, not}
 use mathlib.Core.List.{List}
 use lib.ListN.{length}
 use Rattle.words.specs.declared.settings.Settings.{Settings}
+use Rattle.words.specs.Settings.{hasBroadcastCells}
 use Rattle.words.proofs.Basics.{yes-or-no, not-both}
 use Rattle.windows.specs.declared.window.Window.{Window}
 use Rattle.memory.specs.declared.kind.Kind.{Kind}
@@ -87,6 +88,6 @@ module _ (ram : List ℕ) (s : Settings) (stack : Window) where
   pub after-broadcast : lowest bad 96 ≡ lowest bad 95
   after-broadcast = unlisted 95 1 (λ n l k f. omega arith)
 
-  pub no-broadcast : s .«separate_broadcast» ≡ false → lowest bad 96 ≡ lowest bad 63
+  pub no-broadcast : hasBroadcastCells s ≡ false → lowest bad 96 ≡ lowest bad 63
   no-broadcast e =
-      unlisted 63 33 (λ n l k f. not-both (s .«separate_broadcast») (f .separate (omega arith)) e)
+      unlisted 63 33 (λ n l k f. not-both (hasBroadcastCells s) (f .separate (omega arith)) e)

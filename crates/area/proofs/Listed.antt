@@ -5,11 +5,11 @@ use mathlib.Core.Path.{_≡_, refl}
 use mathlib.Core.Logic.{⊎-elim}
 use mathlib.Core.Bool.{Bool, true, false, cond, _&&_, _||_}
 use mathlib.Core.List.{List}
-use lib.Dec.{ltb, leb}
+use lib.Dec.{ltb, leb, eqb}
 use borrow.Author.Tests.{ltb-true, leb-true, lt-ltb, le-ltb, le-leb}
 use Rattle.words.specs.declared.settings.Settings.{Settings}
-use Rattle.words.specs.Command.{transmits, subaddressOf}
-use Rattle.words.specs.Settings.{isBroadcast}
+use Rattle.words.specs.Command.{addressOf, transmits, subaddressOf}
+use Rattle.words.specs.Settings.{isBroadcast, hasBroadcastCells}
 use Rattle.words.proofs.Basics.{and-left, and-right, lt-or-ge, or-either, not-both}
 use Rattle.memory.specs.declared.kind.Kind.{Kind}
 use Rattle.memory.specs.declared.kind.Kind.the-variants.{Receive, Transmit, Broadcast}
@@ -18,33 +18,33 @@ use Rattle.memory.proofs.Numbers.{number-sub, number-kind, number-below}
 use Rattle.cells.specs.Cell.{cellAt}
 use Rattle.area.specs.Area.{isRead, cellNumbered}
 
--- "subaddresses 1-30; broadcast cells are read only if separate-broadcast is on"
+-- "subaddresses 1-30; broadcast cells are read only if separate-broadcast is on", and with broadcast off not at all
 pub record Listed (s : Settings) (n : ℕ) : Type 0 where
   pub low : 1 ≤ n % 32
   pub high : n % 32 ≤ 30
   pub below : n < 96
-  pub separate : 64 ≤ n → s .«separate_broadcast» ≡ true
+  pub separate : 64 ≤ n → hasBroadcastCells s ≡ true
 
 module _ (s : Settings) (n : ℕ) where
   pub read-listed : isRead s n ≡ true → Listed s n
   unfolding isRead
   read-listed e =
       let sub = leb 1 (n % 32) && leb (n % 32) 30 in
-      let kind = ltb n 64 || (s .«separate_broadcast» && ltb n 96) in
+      let kind = ltb n 64 || (hasBroadcastCells s && ltb n 96) in
       let a : sub ≡ true = and-left sub kind e in
       let b : kind ≡ true = and-right sub kind e in
-      let k = or-either (ltb n 64) (s .«separate_broadcast» && ltb n 96) b in
+      let k = or-either (ltb n 64) (hasBroadcastCells s && ltb n 96) b in
       record {
         low = leb-true _ _ (and-left (leb 1 (n % 32)) (leb (n % 32) 30) a);
         high = leb-true _ _ (and-right (leb 1 (n % 32)) (leb (n % 32) 30) a);
         below =
             ⊎-elim (λ h. omega (arith, ltb-true n 64 h))
-            (λ h. ltb-true n 96 (and-right (s .«separate_broadcast») (ltb n 96) h))
+            (λ h. ltb-true n 96 (and-right (hasBroadcastCells s) (ltb n 96) h))
             k;
         separate =
             λ l.
             ⊎-elim (λ h. absurd (not-both (ltb n 64) h (le-ltb n 64 l)))
-            (λ h. and-left (s .«separate_broadcast») (ltb n 96) h)
+            (λ h. and-left (hasBroadcastCells s) (ltb n 96) h)
             k;
       }
 
@@ -70,19 +70,20 @@ pub numbered-cell :
 unfolding cellNumbered
 numbered-cell ram s kind sub h = rw (number-kind kind sub h, number-sub kind sub h)
 
--- a command uses the broadcast cell only with separate-broadcast
+-- a command uses the broadcast cell only with broadcast and separate-broadcast
 separate-only :
-    (transmit broadcast separate : Bool) →
-    cond transmit Transmit (cond (broadcast && separate) Broadcast Receive) ≡ Broadcast → separate ≡ true
-separate-only true b s e = cc
-separate-only false true true e = refl
-separate-only false true false e = cc
-separate-only false false s e = cc
+    (transmit on high separate : Bool) →
+    cond transmit Transmit (cond ((on && high) && separate) Broadcast Receive) ≡ Broadcast → (on && separate) ≡ true
+separate-only true o h s e = cc
+separate-only false true true true e = refl
+separate-only false true true false e = cc
+separate-only false true false s e = cc
+separate-only false false h s e = cc
 
-pub broadcast-separate : (s : Settings) (command : ℕ) → kindOf s command ≡ Broadcast → s .«separate_broadcast» ≡ true
-unfolding kindOf
+pub broadcast-separate : (s : Settings) (command : ℕ) → kindOf s command ≡ Broadcast → hasBroadcastCells s ≡ true
+unfolding kindOf isBroadcast hasBroadcastCells
 broadcast-separate s command e =
-    separate-only (transmits command) (isBroadcast s command) (s .«separate_broadcast») e
+    separate-only (transmits command) (s .broadcast) (eqb (addressOf command) 31) (s .«separate_broadcast») e
 
 broadcast-high : (kind : Kind) (sub : ℕ) → sub < 32 → 64 ≤ cellNumber kind sub → kind ≡ Broadcast
 unfolding cellNumber

@@ -8,7 +8,7 @@ use lib.Dec.{ltb, leb, eqb}
 use Rattle.words.specs.declared.settings.Settings.{Settings}
 use Rattle.words.specs.Number.{ramLength, badSettings, unsoundStack, unsoundCell}
 use Rattle.words.specs.Refusal.{Test, _when_, firstOf}
-use Rattle.words.specs.Settings.{settingsRefused}
+use Rattle.words.specs.Settings.{settingsRefused, hasBroadcastCells}
 use Rattle.cells.specs.declared.cell.Cell.{Cell}
 use Rattle.windows.specs.declared.window.Window.{Window}
 use Rattle.area.specs.declared.area.Checked.{Checked}
@@ -18,10 +18,10 @@ use Rattle.cells.specs.Cell.{cellAt, soundCell}
 use Rattle.cells.specs.Stack.{stackWindow, stackSound}
 
 -- which cells are read, by number and in rising order: "subaddresses 1-30; broadcast cells .. only if separate-broadcast
--- is on"
+-- is on", and with broadcast off "broadcast cells are not read by the whole-area check"
 unfoldable pub isRead : Settings → ℕ → Bool
 isRead s number =
-    (leb 1 (number % 32) && leb (number % 32) 30) && (ltb number 64 || (s .«separate_broadcast» && ltb number 96))
+    (leb 1 (number % 32) && leb (number % 32) 30) && (ltb number 64 || (hasBroadcastCells s && ltb number 96))
 
 -- the cell with this number
 unfoldable pub cellNumbered : List ℕ → Settings → ℕ → Cell

@@ -18,6 +18,7 @@ use words::number::RAM_LENGTH;
 use words::number::UNSOUND_CELL;
 use words::number::UNSOUND_STACK;
 use words::settings::Settings;
+use words::settings::has_broadcast_cells;
 use words::settings::settings_refused;
 
 // The number, and with 9 the lowest unsound cell; the cell is 0 with every other number.
@@ -57,7 +58,7 @@ fn lowest_unsound(ram: &[u16], s: Settings) -> u16
     if transmit != 0 {
         return transmit;
     }
-    if s.separate_broadcast {
+    if has_broadcast_cells(s) {
         return lowest_of_kind(ram, s, stack, Kind::Broadcast);
     }
     0

@@ -34,7 +34,7 @@ pub(crate) fn cleared(ram: &mut [u16; 4352], reply: &mut [u16; 64]) -> Bench {
     }
 }
 
-// The yes/no settings are bits of `yes`, lowest first in document 01's order.
+// The yes/no settings are bits of `yes`, lowest first in document 01's order; after them, broadcast off.
 pub(crate) fn settings(address: u16, second: u16, size: u16, yes: u16) -> Settings {
     let area = if second == 0 { Area::A } else { Area::B };
     Settings {
@@ -49,6 +49,7 @@ pub(crate) fn settings(address: u16, second: u16, size: u16, yes: u16) -> Settin
         service_request: yes / 32 % 2 == 1,
         subsystem_flag: yes / 64 % 2 == 1,
         terminal_flag: yes / 128 % 2 == 1,
+        broadcast: yes / 256 % 2 == 0,
     }
 }
 

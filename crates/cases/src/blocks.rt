@@ -61,9 +61,11 @@ pub(crate) fn cell(ram: &[u16], b: Bench, n: Numbers) {
 pub(crate) fn check(ram: &[u16], b: Bench) {
     let s = b.settings;
     let lent = front_of(ram, b.ram);
-    let x = check_area(lent, settings(s.address, 0, s.stack_size, 0xD));
-    let y = check_area(lent, settings(s.address, 0, s.stack_size, 0xF));
-    let z = check_area(lent, settings(s.address, 1, s.stack_size, 0xF));
+    let joined = pick(s.broadcast, 0xD, 0x10D);
+    let separate = pick(s.broadcast, 0xF, 0x10F);
+    let x = check_area(lent, settings(s.address, 0, s.stack_size, joined));
+    let y = check_area(lent, settings(s.address, 0, s.stack_size, separate));
+    let z = check_area(lent, settings(s.address, 1, s.stack_size, separate));
     let stack = stack_sound(lent, s) as u16;
     let refused = settings_refused(s) as u16;
     show(

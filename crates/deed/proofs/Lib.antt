@@ -2,4 +2,5 @@ pub mod Reach
 pub mod Contained
 pub mod StatusBits
 pub mod Before
+pub mod BroadcastOff
 pub mod Determined

@@ -7,7 +7,7 @@ use mathlib.Core.Bool.{true, false}
 use mathlib.Core.List.{List, [], _∷_, _++_, map}
 use Rattle.words.specs.Bits.{bitsOf}
 use Rattle.words.specs.Command.{wordCount, isModeSubaddress}
-use Rattle.words.specs.Settings.{stackSizeListed, settingsRefused, isOwn, isBroadcast, isNotOurs, programSettings}
+use Rattle.words.specs.Settings.{stackSizeListed, settingsRefused, isOwn, isBroadcast, isNotOurs, hasBroadcastCells, programSettings}
 use Rattle.words.specs.Refusal.{firstOf}
 use Rattle.records.specs.Transfer.{transferFails, breaksTransfer}
 use Rattle.records.specs.Value.{lastsZero, keepsLayout}
@@ -175,5 +175,5 @@ expected =
     ∷ []
 
 pub computed : map seen cases ≡ expected
-unfolding bitsOf wordCount isModeSubaddress stackSizeListed settingsRefused isOwn isBroadcast isNotOurs firstOf transferFails breaksTransfer lastsZero keepsLayout expectedWords faultsOf faultsFor anyFault ramRefused stackPointerPlace lookupTable busyPlace isBusyAt illegalPlace isIllegalAt cellNumber kindOf applyWrites writesTo runFrom aligned placeOf rollsOver meets meetsFixed controlPart pickScheme schemeOf cellAt windowOf doubleFits soundCell stackPointer stackWindow stackSound cellFor isIllegal isBusy targetOf withheld wordsStored wordsSent actWith actOf mayMove stride moves motionWith motionOf blockStatus statusBits statusWord signalsOf deedWith deedOf entryOf interruptWord planWith planOf pointerWrites descriptorOf entryWrites deedWrites stackWrites writesOf replyWrites replyWords cellUnsound refusalFor refusedWith acceptedWith answerFor rememberedWith carriedOut stateFor answerOf step kindNumbered programSettings isRead cellNumbered isUnsound orElse lowest lowestUnsound areaRefusal checkArea run effectOf effects swapAt exchangeAll wellFormed allWellFormed mayExchange allowedAt allowedAll withoutWrap withoutStackRollover rememberedLast entriesOn lastOf stackWord keptAfter stackAfter rememberedAfter startsWell takesWell asked plainRam startOf orderOf saidOf seen
+unfolding bitsOf wordCount isModeSubaddress stackSizeListed settingsRefused isOwn isBroadcast isNotOurs hasBroadcastCells firstOf transferFails breaksTransfer lastsZero keepsLayout expectedWords faultsOf faultsFor anyFault ramRefused stackPointerPlace lookupTable busyPlace isBusyAt illegalPlace isIllegalAt cellNumber kindOf applyWrites writesTo runFrom aligned placeOf rollsOver meets meetsFixed controlPart pickScheme schemeOf cellAt windowOf doubleFits soundCell stackPointer stackWindow stackSound cellFor isIllegal isBusy targetOf withheld wordsStored wordsSent actWith actOf mayMove stride moves motionWith motionOf blockStatus statusBits statusWord signalsOf deedWith deedOf entryOf interruptWord planWith planOf pointerWrites descriptorOf entryWrites deedWrites stackWrites writesOf replyWrites replyWords cellUnsound refusalFor refusedWith acceptedWith answerFor rememberedWith carriedOut stateFor answerOf step kindNumbered programSettings isRead cellNumbered isUnsound orElse lowest lowestUnsound areaRefusal checkArea run effectOf effects swapAt exchangeAll wellFormed allWellFormed mayExchange allowedAt allowedAll withoutWrap withoutStackRollover rememberedLast entriesOn lastOf stackWord keptAfter stackAfter rememberedAfter startsWell takesWell asked plainRam startOf orderOf saidOf seen
 computed = refl

@@ -8,4 +8,5 @@ pub mod Members
 pub mod Shared
 pub mod Answers
 pub mod Named
+pub mod BroadcastOff
 pub mod Determined

@@ -8,6 +8,7 @@ use mathlib.Core.List.{List}
 use lib.ListN.{length, getD, replicate, length-replicate}
 use lib.Dec.{eqb}
 use borrow.Author.Tests.{lt-ltb, le-ltb, ne-eqb}
+use Rattle.words.specs.Settings.{hasBroadcastCells}
 use Rattle.words.specs.declared.settings.Settings.{Settings}
 use Rattle.words.proofs.Basics.{yes-or-no, not-both}
 use Rattle.words.proofs.Fill.{fill-at}
@@ -145,7 +146,7 @@ module _ (ram : List ℕ) (s : Settings) where
   -- cells from `readEnd` on are not read, so they meet none
   past-none : (n : ℕ) → readEnd s ≤ n → TakesPart ram s n → ⊥
   past-none n h f =
-      let separate = s .«separate_broadcast» in
+      let separate = hasBroadcastCells s in
       let listed = read-listed s n (f .read) in
       ⊎-elim
       (λ (b : separate ≡ true). let past : 96 ≤ n = rw b at h in omega (arith, listed .below))
@@ -158,7 +159,7 @@ module _ (ram : List ℕ) (s : Settings) where
 
   end-small : readEnd s ≤ 96
   end-small =
-      let separate = s .«separate_broadcast» in
+      let separate = hasBroadcastCells s in
       ⊎-elim
       (λ (b : separate ≡ true). rw b (omega arith))
       (λ (b : separate ≡ false). rw b (omega arith))

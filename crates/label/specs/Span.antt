@@ -5,6 +5,7 @@ use mathlib.Core.List.{List}
 use lib.ListN.{length, getD}
 use lib.Dec.{ltb, eqb}
 use Rattle.words.specs.declared.settings.Settings.{Settings}
+use Rattle.words.specs.Settings.{hasBroadcastCells}
 use Rattle.windows.specs.declared.window.Window.{Window}
 use Rattle.words.specs.Fill.{fill}
 use Rattle.cells.specs.Stack.{stackWindow}
@@ -56,7 +57,7 @@ otherMeets starts ends cell other = not (eqb other cell) && placesMeet starts en
 
 -- no cell from this number on is read
 abbrev pub readEnd : Settings → ℕ
-readEnd s = cond (s .«separate_broadcast») 96 64
+readEnd s = cond (hasBroadcastCells s) 96 64
 
 -- read, and there is no address in its window: a cell that is unsound
 unfoldable pub readInVain : Settings → List ℕ → ℕ → Bool

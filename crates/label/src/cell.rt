@@ -11,6 +11,7 @@ use memory::kind::Kind;
 use words::choose::both;
 use words::choose::either;
 use words::settings::Settings;
+use words::settings::has_broadcast_cells;
 
 pub fn kind_numbered(number: u16) -> Kind
     ensures { λ r. ⌜ r ≡ kindNumbered number ⌝ }
@@ -40,7 +41,7 @@ pub fn is_read(s: Settings, number: u16) -> bool
 {
     let sub = number % 32;
     let named = both(1 <= sub, sub <= 30);
-    let broadcast = both(s.separate_broadcast, number < 96);
+    let broadcast = both(has_broadcast_cells(s), number < 96);
     both(named, either(number < 64, broadcast))
 }
 
@@ -48,7 +49,7 @@ pub fn is_read(s: Settings, number: u16) -> bool
 pub(crate) fn read_end(s: Settings) -> u16
     ensures { λ r. ⌜ (r ≡ readEnd s) × (r ≤ 96) ⌝ }
 {
-    if s.separate_broadcast { 96 } else { 64 }
+    if has_broadcast_cells(s) { 96 } else { 64 }
 }
 
 pub fn cell_numbered(ram: &[u16], s: Settings, number: u16) -> Cell

@@ -17,7 +17,8 @@ isYes w = not (eqb w 0)
 unfoldable pub areaFrom : ℕ → Area
 areaFrom w = cond (eqb w 0) A B
 
--- eleven words: address, area, stack size, and the yes/no settings in document 01's order
+-- twelve words: address, area, stack size, the yes/no settings in document 01's order, and broadcast off. The last one says
+-- "off", so that who lends the eleven words of before has broadcast on, as before.
 unfoldable pub settingsFrom : List ℕ → Settings
 settingsFrom xs =
     record {
@@ -32,6 +33,7 @@ settingsFrom xs =
       «service_request» = isYes (getD xs 8 0);
       «subsystem_flag» = isYes (getD xs 9 0);
       «terminal_flag» = isYes (getD xs 10 0);
+      broadcast = eqb (getD xs 11 0) 0;
     }
 
 -- two words: last command, last status

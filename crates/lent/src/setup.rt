@@ -17,6 +17,7 @@ fn area_from(w: u16) -> Area
 pub fn settings_from(xs: &[u16]) -> Settings
     ensures { λ r. ⌜ r ≡ settingsFrom (now (xs .entry)) ⌝ }
 {
+    let broadcast = word_at(xs, 11) == 0;
     let terminal_flag = word_at(xs, 10) != 0;
     let subsystem_flag = word_at(xs, 9) != 0;
     let service_request = word_at(xs, 8) != 0;
@@ -39,6 +40,7 @@ pub fn settings_from(xs: &[u16]) -> Settings
         service_request,
         subsystem_flag,
         terminal_flag,
+        broadcast,
     }
 }
 

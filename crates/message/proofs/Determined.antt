@@ -2,6 +2,7 @@
 -- are equal. Each line speaks of the contract as the checker reads it (`Reads.Post`), so that none can drift from its function.
 use mathlib.Core.Path.{refl}
 use Rattle.words.proofs.Settled.{determined, Settled}
+use Rattle.message.proofs.perform
 use Rattle.message.proofs.serve
 use Rattle.message.proofs.tests
 
@@ -24,3 +25,7 @@ message-from-bytes-settled κs a x y v w p q =
 
 pub late-refusal-settled : Settled 1 tests.late_refusal.Kinds.ps tests.late_refusal.Kinds.r tests.late_refusal.Reads.Post
 late-refusal-settled κs a x y v w p q = (determined p q, refl)
+
+pub perform-settled : Settled 2 perform.perform.Kinds.ps perform.perform.Kinds.r perform.perform.Reads.Post
+perform-settled κs a x y v w p q =
+    (determined (p .0) (q .0), λ i. (determined (p .1 .0) (q .1 .0) i, (determined (p .1 .1) (q .1 .1) i, v .1 .1)))

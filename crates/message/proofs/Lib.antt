@@ -5,6 +5,6 @@ pub mod Refusals
 pub mod Only
 pub mod InTurn
 pub mod FromBytes
-pub mod Carried
+pub mod Performing
 pub mod Edges
 pub mod Determined

@@ -7,21 +7,18 @@ ghost use Rattle.decide.specs.Plan.{planOf};
 ghost use Rattle.message.specs.Heard.{heardValue, heardBytes};
 ghost use Rattle.message.specs.Tests.{earlyTests, commandTests};
 ghost use Rattle.message.specs.Answer.{refusedWith, acceptedWith, answerFor};
-ghost use Rattle.message.specs.Message.{carriedOut, stateFor, answerOf, step};
+ghost use Rattle.message.specs.Message.{rememberedWith, stateFor, answerOf, step};
 use crate::answer::Outcome;
 use crate::answer::accepted_with;
 use crate::answer::refused_with;
+use crate::perform::Performed;
+use crate::perform::perform;
 use crate::tests::early_refusal;
-use crate::tests::late_refusal;
-use carry::carry::carry_out;
-use carry::reply::send;
-use decide::plan::plan_of;
+use decide::plan::Plan;
 use layout::reader;
-use memory::map::ram_refused;
 use records::value::Record;
 use records::value::keeps_layout;
 use words::choose::no;
-use words::number::RAM_LENGTH;
 use words::number::RECORD_LAYOUT;
 use words::remembered::Remembered;
 use words::settings::Settings;
@@ -37,15 +34,11 @@ fn refuse(number: u16, before: Remembered) -> Outcome
     }
 }
 
-// An accepted message: decided, then carried out.
-fn accept(ram: &mut [u16], reply: &mut [u16], s: Settings, before: Remembered, v: Record) -> Outcome
-    ensures answer { λ r. ⌜ r .answer ≡ acceptedWith (planOf s (now (ram .entry)) before v) ⌝ }
-    ensures state { λ r. ⌜ stateOf (now (ram .exit)) (now (reply .exit)) (r .remembered) ≡ carriedOut s (planOf s (now (ram .entry)) before v) v (stateOf (now (ram .entry)) (now (reply .entry)) before) ⌝ }
+// An accepted message: what was done is told, and remembered.
+fn accept(plan: Plan, v: Record) -> Outcome
+    ensures { λ r. ⌜ r ≡ record { answer = acceptedWith plan; remembered = rememberedWith plan v } ⌝ }
 {
-    let plan = plan_of(ram, s, before, v);
     let deed = plan.deed;
-    send(ram, reply, deed);
-    carry_out(ram, s, plan, v);
     let answer = accepted_with(plan);
     Outcome {
         answer,
@@ -62,15 +55,11 @@ fn serve(ram: &mut [u16], reply: &mut [u16], s: Settings, before: Remembered, v:
     ensures answer { λ r. ⌜ r .answer ≡ answerFor (firstOf (commandTests (now (ram .entry)) s (v .command))) (planOf s (now (ram .entry)) before v) ⌝ }
     ensures state { λ r. ⌜ stateOf (now (ram .exit)) (now (reply .exit)) (r .remembered) ≡ stateFor (firstOf (commandTests (now (ram .entry)) s (v .command))) s (planOf s (now (ram .entry)) before v) v (stateOf (now (ram .entry)) (now (reply .entry)) before) ⌝ }
 {
-    // Never so here. It tells the compiler how long RAM is, which then leaves out the bounds tests of fixed places.
-    if ram_refused(ram.len()) {
-        return refuse(RAM_LENGTH, before);
+    let performed = perform(ram, reply, s, before, v);
+    match performed {
+        Performed::Refused(number) => refuse(number, before),
+        Performed::Done(plan) => accept(plan, v),
     }
-    let number = late_refusal(ram, s, v.command);
-    if number != 0 {
-        return refuse(number, before);
-    }
-    accept(ram, reply, s, before, v)
 }
 
 // One message from a record value.

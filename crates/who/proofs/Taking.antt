@@ -5,7 +5,7 @@ use native.Mathlib.Omega.{arith}
 use mathlib.Core.Path.{_≡_, sym, ap, _∙_}
 use mathlib.Core.Logic.{⊎-elim}
 use mathlib.Core.List.{List}
-use lib.ListN.{length}
+use lib.ListN.{length, replicate}
 use borrow.Author.Tests.{eq-eqb, ne-eqb}
 use Rattle.words.specs.declared.settings.Settings.{Settings}
 use Rattle.words.specs.declared.remembered.Remembered.{Remembered}
@@ -14,17 +14,21 @@ use Rattle.words.proofs.Basics.{eq-or-ne}
 use Rattle.records.specs.declared.value.Record.{Record}
 use Rattle.layout.specs.declared.reader.Reading.{Reading}
 use Rattle.layout.specs.Layout.{readRecord}
-use Rattle.memory.specs.State.{State}
+use Rattle.memory.specs.State.{State, stateOf}
 use Rattle.memory.specs.Writes.{applyWrites}
 use Rattle.decide.specs.declared.plan.Plan.{Plan}
 use Rattle.decide.specs.Plan.{planOf}
 use Rattle.carry.specs.Writes.{writesOf}
 use Rattle.message.specs.Heard.{Heard, heardBytes}
 use Rattle.message.specs.Tests.{earlyTests, commandTests, refusalFor}
-use Rattle.message.specs.Message.{planFor, rememberedWith, carriedOut, step}
+use Rattle.message.specs.declared.perform.Performed.{Performed}
+use Rattle.message.specs.declared.perform.Performed.the-variants.{Refused, Done}
+use Rattle.message.specs.Performed.{performTests, performedWith}
+use Rattle.message.specs.Message.{planFor, rememberedWith, stateFor, carriedOut, step}
 use Rattle.message.proofs.Refusals.{refused-state, accepted-state}
 use Rattle.message.proofs.InTurn.{stops-record, passes-record}
 use Rattle.message.proofs.FromBytes.{record-number, value-read}
+use Rattle.message.proofs.Performing.{performed-refused, performed-done, command-number}
 use Rattle.who.specs.declared.taken.Taken.{Taken}
 use Rattle.who.specs.declared.taken.Taken.the-variants.{Passed, Carried}
 use Rattle.who.specs.Taken.{terminalOf, takenOf}
@@ -92,10 +96,7 @@ module _ (s : Settings) (ram : List ℕ) (before : Remembered) (bytes : List ℕ
       number : refusalFor s h x ≡ firstOf (commandTests ram s (v .command))
       number = rw same (passes-record s h x early (record-number bytes ∙ taken))
 
-      pub not-served : (n : ℕ) → n ≡ firstOf (commandTests ram s (v .command)) → (n ≡ 0 → ⊥) → Leaves Passed ram
-      not-served n f m = refused (λ z. m (f ∙ sym number ∙ z))
-
-      pub served :
+      served :
           (n : ℕ) (p : Plan) (m : List ℕ) →
           n ≡ firstOf (commandTests ram s (v .command)) →
           n ≡ 0 →
@@ -106,3 +107,31 @@ module _ (s : Settings) (ram : List ℕ) (before : Remembered) (bytes : List ℕ
       served n p m f z planned carried =
           let zero = number ∙ sym f ∙ z in
           (rw (eq-eqb (refusalFor s h x) 0 zero, planned, same), rw (accepted-state s h x zero, carried, planned, same))
+
+      abbrev n : ℕ
+      n = firstOf (performTests ram s (v .command))
+
+      -- what was performed, with room for a reply that nobody reads
+      module _
+          (r : Performed)
+          (m : List ℕ)
+          (performed : r ≡ performedWith n (planOf s ram before v))
+          (left : m ≡ stateFor n s (planOf s ram before v) v (stateOf ram (replicate 33 0) before) .ram)
+        where
+          late : n ≡ firstOf (commandTests ram s (v .command))
+          late = command-number ram 33 s (v .command) early
+
+          pub not-performed : (k : ℕ) → r ≡ Refused k → Leaves Passed m
+          unfolding stateFor
+          not-performed k told =
+              let f = performed-refused n (planOf s ram before v) k (sym told ∙ performed) in
+              let kept : m ≡ ram = rw (left, ne-eqb n 0 (f .some)) in
+              rw kept (refused (λ z. f .some (late ∙ sym number ∙ z)))
+
+          pub is-performed :
+              (p : Plan) → r ≡ Done p → Leaves (Carried p (record { command = v .command; status = p .deed .status })) m
+          unfolding stateFor carriedOut
+          is-performed p told =
+              let f = performed-done n (planOf s ram before v) p (sym told ∙ performed) in
+              let carried : m ≡ applyWrites (writesOf s p v) ram = rw (left, eq-eqb n 0 (f .none), f .plan) in
+              served n p m late (f .none) (f .plan) carried

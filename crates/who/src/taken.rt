@@ -7,11 +7,10 @@ ghost use Rattle.message.specs.Tests.{earlyTests};
 ghost use Rattle.message.specs.Message.{step};
 ghost use Rattle.who.specs.Taken.{terminalOf, takenOf};
 use crate::tests::replay_refusal;
-use carry::carry::carry_out;
 use decide::plan::Plan;
-use decide::plan::plan_of;
 use layout::reader::read;
-use message::tests::late_refusal;
+use message::perform::Performed;
+use message::perform::perform;
 use words::remembered::Remembered;
 use words::settings::Settings;
 
@@ -32,17 +31,19 @@ fn take_tested(ram: &mut [u16], s: Settings, before: Remembered, bytes: &[u8]) -
         return Taken::Passed;
     }
     let v = reading.value;
-    if late_refusal(ram, s, v.command) != 0 {
-        return Taken::Passed;
+    let mut reply = [0u16; 33];
+    let performed = perform(ram, &mut reply, s, before, v);
+    match performed {
+        Performed::Refused(_) => Taken::Passed,
+        Performed::Done(plan) => {
+            let deed = plan.deed;
+            let remembered = Remembered {
+                command: v.command,
+                status: deed.status,
+            };
+            Taken::Carried(plan, remembered)
+        }
     }
-    let plan = plan_of(ram, s, before, v);
-    carry_out(ram, s, plan, v);
-    let deed = plan.deed;
-    let remembered = Remembered {
-        command: v.command,
-        status: deed.status,
-    };
-    Taken::Carried(plan, remembered)
 }
 
 // A record, whatever RAM and settings are: where they are refused, every record is.

@@ -1,9 +1,10 @@
 // Settings, and what they alone decide.
 ghost use mathlib.Core.Path.{_≡_};
-ghost use Rattle.words.specs.Settings.{stackSizeListed, settingsRefused, isOwn, isBroadcast, isNotOurs, programSettings};
+ghost use Rattle.words.specs.Settings.{stackSizeListed, highestAddress, settingsRefused, isOwn, isBroadcast, isNotOurs, hasBroadcastCells, programSettings};
 use crate::choose::both;
 use crate::choose::either;
 use crate::choose::no;
+use crate::choose::pick;
 use crate::command::address;
 
 pub enum Area {
@@ -24,6 +25,7 @@ pub struct Settings {
     pub service_request: bool,
     pub subsystem_flag: bool,
     pub terminal_flag: bool,
+    pub broadcast: bool,
 }
 
 fn stack_size_listed(size: u16) -> bool
@@ -35,10 +37,17 @@ fn stack_size_listed(size: u16) -> bool
     )
 }
 
+fn highest_address(s: Settings) -> u16
+    ensures { λ r. ⌜ r ≡ highestAddress s ⌝ }
+{
+    pick(s.broadcast, 30, 31)
+}
+
 pub fn settings_refused(s: Settings) -> bool
     ensures { λ r. ⌜ r ≡ settingsRefused s ⌝ }
 {
-    either(30 < s.address, no(stack_size_listed(s.stack_size)))
+    let highest = highest_address(s);
+    either(highest < s.address, no(stack_size_listed(s.stack_size)))
 }
 
 pub fn is_own(s: Settings, command: u16) -> bool
@@ -52,13 +61,20 @@ pub fn is_broadcast(s: Settings, command: u16) -> bool
     ensures { λ r. ⌜ r ≡ isBroadcast s command ⌝ }
 {
     let a = address(command);
-    a == 31
+    both(s.broadcast, a == 31)
 }
 
 pub fn is_not_ours(s: Settings, command: u16) -> bool
     ensures { λ r. ⌜ r ≡ isNotOurs s command ⌝ }
 {
     both(no(is_own(s, command)), no(is_broadcast(s, command)))
+}
+
+// Whether broadcast cells are read and used.
+pub fn has_broadcast_cells(s: Settings) -> bool
+    ensures { λ r. ⌜ r ≡ hasBroadcastCells s ⌝ }
+{
+    both(s.broadcast, s.separate_broadcast)
 }
 
 // The settings of the programs that are given none.
@@ -77,5 +93,6 @@ pub fn program_settings() -> Settings
         service_request: false,
         subsystem_flag: false,
         terminal_flag: false,
+        broadcast: true,
     }
 }

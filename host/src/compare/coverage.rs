@@ -1,5 +1,7 @@
 //! What a comparison has met: how often each class of case occurred.
 
+mod transfers;
+
 use super::case::{Answers, Message, Request, State};
 use super::classes;
 use crate::terminal::cells::{Cell, Kind, Scheme, Stack, RAM_WORDS};
@@ -7,6 +9,7 @@ use crate::terminal::message::cell_kind;
 use crate::terminal::records::{
     read_record, Record, FLAG_BUS_B, FLAG_INVALID_WORD, FLAG_WRONG_SYNC, TOO_MANY,
 };
+use crate::terminal::settings::BROADCAST_ADDRESS;
 use crate::terminal::words::Command;
 use crate::terminal::{Answer, Settings};
 
@@ -17,13 +20,25 @@ classes! {
     Refused1 "refused with 1, RAM length",
     Refused2 "refused with 2, reply length",
     Refused3 "refused with 3, settings",
+    Refused3At31 "refused with 3, our own address 31 with broadcast on",
     Refused4 "refused with 4, record length",
     Refused5 "refused with 5, record layout (bytes)",
     Refused5Value "refused with 5, record layout (value)",
+    ZeroBytes5 "refused with 5 for bytes 8-15 alone",
+    Flags5 "refused with 5 for flag 128 alone",
+    Count5 "refused with 5 for the count alone",
+    WordsAfter5 "refused with 5 for words after the counted ones alone",
+    TransferReceives5 "refused with 5 for flag 8 on a transmit command alone",
+    FaultOfTransfer5 "refused with 5 for flags 16 to 64 without flag 8 alone",
+    CommandOfTransfer5 "refused with 5 for bytes 2-3 without flag 8 alone",
+    NoWordAfterFault5 "refused with 5 for a count with flags 16 to 64 alone",
     Refused6 "refused with 6, address",
+    Refused6At31 "refused with 6, address 31 with broadcast off",
     Refused7 "refused with 7, subaddress",
     Refused8 "refused with 8, stack",
     Refused9 "refused with 9, cell",
+    Transfer6 "transfer refused with 6",
+    Transfer7 "transfer refused with 7",
     SingleReceive "single, receive",
     SingleTransmit "single, transmit",
     SingleBroadcast "single, broadcast",
@@ -53,11 +68,27 @@ classes! {
     OwnTransmit "own transmit",
     BroadcastReceive "broadcast receive",
     BroadcastTransmit "broadcast transmit (contents fault)",
+    YesBroadcast "broadcast on",
+    NoBroadcast "broadcast off",
+    OrdinaryReceive "receive at 31, our own with broadcast off",
+    OrdinaryTransmit "transmit at 31, our own with broadcast off",
+    OrdinarySeparate "separate-broadcast on with broadcast off",
     CountFault "count fault",
     SyncFault "sync fault",
     InvalidWord "invalid word",
     SyncAndInvalid "sync fault and invalid word",
     BusB "bus B",
+    GoodTransfer "transfer without a fault",
+    BroadcastTransfer "transfer, broadcast",
+    TransferFromZero "transfer with transmit command 0",
+    TransferCount "transfer with a count fault",
+    TransferData "transfer with wrong sync or an invalid word",
+    TransferNoStatus "transfer without a status",
+    TransferGap "transfer with a wrong gap",
+    TransferSecond "transfer with a bad second command",
+    TransferTwoFaults "transfer with two of the last three",
+    TransferThreeFaults "transfer with all three",
+    TransferBesideData "transfer with one of the three beside wrong sync or an invalid word",
     CountZero "no words",
     CountOver "more than 32 words",
     CountFieldZero "count field 0",
@@ -149,7 +180,8 @@ impl Coverage {
         self.take_in_area(answers);
         let answer = &answers.answer;
         if answer.number != 0 {
-            self.take_in_refusal(before, from_bytes, answer.number);
+            self.take_in_refusal(before, request, from_bytes, answer.number);
+            self.take_in_refused_record(&request.message, answer.number);
         } else if let (Some(record), Some((cell, stack))) =
             (record_of(&request.message), &before.cell)
         {
@@ -171,7 +203,13 @@ impl Coverage {
         }
     }
 
-    fn take_in_refusal(&mut self, before: &Before, from_bytes: bool, number: u16) {
+    fn take_in_refusal(
+        &mut self,
+        before: &Before,
+        request: &Request,
+        from_bytes: bool,
+        number: u16,
+    ) {
         let class = match number {
             1 => Class::Refused1,
             2 => Class::Refused2,
@@ -185,10 +223,25 @@ impl Coverage {
             _ => Class::Refused9,
         };
         self.note(class, true);
+        self.take_in_31(request, number);
         if let Some((cell, _)) = &before.cell {
             let too_large = matches!(cell.scheme, Scheme::Circular(4096 | 8192));
             self.note(Class::CircleTooLarge, number == 9 && too_large);
         }
+    }
+
+    /// Refusals that turn on whether 31 is broadcast.
+    fn take_in_31(&mut self, request: &Request, number: u16) {
+        let Settings {
+            address, broadcast, ..
+        } = request.settings;
+        let own = address == BROADCAST_ADDRESS;
+        self.note(Class::Refused3At31, number == 3 && own && broadcast);
+        let record = record_of(&request.message);
+        let to_31 = record.map_or(false, |it| {
+            Command(it.command).address() == BROADCAST_ADDRESS
+        });
+        self.note(Class::Refused6At31, number == 6 && to_31);
     }
 
     fn take_in_settings(&mut self, mut settings: Settings) {
@@ -201,6 +254,11 @@ impl Coverage {
         for ((yes, no), (_, switch)) in SWITCHED.into_iter().zip(Settings::SWITCHES) {
             self.either(yes, no, *switch(&mut settings));
         }
+        self.either(YesBroadcast, NoBroadcast, settings.broadcast);
+        self.note(
+            OrdinarySeparate,
+            settings.separate_broadcast && !settings.broadcast,
+        );
     }
 
     fn take_in_place(&mut self, cell: &Cell, stack: &Stack) {
@@ -238,7 +296,8 @@ impl Coverage {
         answer: &Answer,
     ) {
         self.note(Class::Accepted, true);
-        self.take_in_record(record);
+        self.take_in_record(settings, record);
+        self.take_in_transfer(settings, record, answer);
         self.take_in_answer(settings, answer);
         let moved = if Command(record.command).is_transmit() {
             answer.sent
@@ -248,7 +307,7 @@ impl Coverage {
         self.take_in_pointer(cell, moved, answer);
     }
 
-    fn take_in_record(&mut self, record: &Record) {
+    fn take_in_record(&mut self, settings: &Settings, record: &Record) {
         use Class::*;
         let command = Command(record.command);
         self.note(BusB, record.has_flag(FLAG_BUS_B));
@@ -257,13 +316,18 @@ impl Coverage {
         self.note(CountZero, record.count == 0);
         self.note(CountOver, record.count == TOO_MANY);
         self.note(CountFieldZero, command.count_field() == 0);
-        let class = match (command.is_broadcast(), command.is_transmit()) {
+        let class = match (settings.is_broadcast(command), command.is_transmit()) {
             (false, false) => OwnReceive,
             (false, true) => OwnTransmit,
             (true, false) => BroadcastReceive,
             (true, true) => BroadcastTransmit,
         };
         self.note(class, true);
+        let ordinary = match command.is_transmit() {
+            true => OrdinaryTransmit,
+            false => OrdinaryReceive,
+        };
+        self.note(ordinary, settings.address == BROADCAST_ADDRESS);
     }
 
     fn take_in_answer(&mut self, settings: &Settings, answer: &Answer) {

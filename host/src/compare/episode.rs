@@ -11,16 +11,20 @@ use crate::terminal::cells::{
     control_place, lookup_place, stack_pointer_place, Cell, Kind, Scheme, Stack, RAM_WORDS,
 };
 use crate::terminal::message::{cell_kind, REPLY_WORDS};
-use crate::terminal::records::{Record, RECORD_BYTES, RECORD_WORDS};
+use crate::terminal::records::{put_together, Record, RECORD_BYTES, RECORD_WORDS};
+use crate::terminal::settings::BROADCAST_ADDRESS;
 use crate::terminal::tables::{busy_place, illegal_place, BitPlace};
-use crate::terminal::words::{Command, BROADCAST_ADDRESS};
-use crate::terminal::{write_record, Settings};
+use crate::terminal::words::Command;
+use crate::terminal::Settings;
 
 /// Messages of an episode: a stack of 256 words wraps in it from any place.
 pub const EPISODE_MESSAGES: usize = 64;
 
 /// One of so many messages is spoiled in each of the ways there are.
 const SPOILED_ONE_IN: usize = 40;
+
+/// One of so many messages has any flags at all.
+const ANY_FLAGS_ONE_IN: usize = 12;
 
 /// Tries to find a sound place before another scheme is taken.
 const TRIES: usize = 32;
@@ -162,17 +166,20 @@ impl Episode {
 
     /// New answers to the yes/no settings; the rest stays with the image.
     fn turn_settings(&mut self) {
+        let turned = self.random.settings();
         self.settings = Settings {
             address: self.settings.address,
             area_b: self.settings.area_b,
             stack_size: self.settings.stack_size,
-            ..self.random.settings()
+            // With broadcast on, address 31 is refused.
+            broadcast: turned.broadcast && self.settings.address != BROADCAST_ADDRESS,
+            ..turned
         };
     }
 
     fn spoil_settings(&mut self, settings: &mut Settings) {
         if self.random.chance(2) {
-            settings.address = self.random.pick(&[31, 32, 37, 63, 0x8005, 0xFFFF]);
+            settings.address = self.random.pick(&[31, 31, 32, 37, 63, 0x8005, 0xFFFF]);
         } else {
             let sizes = [0, 1, 4, 128, 255, 257, 768, 1023, 4096, 0x8000, 0xFFFF];
             settings.stack_size = self.random.pick(&sizes);
@@ -204,10 +211,10 @@ impl Episode {
     fn aim(&mut self, state: &mut State, command: Command) {
         let settings = self.settings;
         if self.random.chance(16) {
-            self.flip(state, illegal_place(command));
+            self.flip(state, illegal_place(&settings, command));
         }
         if self.random.chance(16) {
-            self.flip(state, busy_place(command));
+            self.flip(state, busy_place(&settings, command));
         }
         if self.random.chance(16) {
             // Near the end of its block, where it wraps.
@@ -384,7 +391,7 @@ impl Episode {
     }
 
     fn message(&mut self, command: Command) -> Message {
-        let record = self.random.record_for(command);
+        let record = self.heard(command);
         if self.random.chance(2) {
             return Message::Value(self.value(record));
         }
@@ -399,15 +406,34 @@ impl Episode {
     /// The bytes of a whole record, of which some keep the layout no more.
     pub fn record(&mut self) -> [u8; RECORD_BYTES] {
         let command = self.command();
-        let record = self.random.record_for(command);
+        let record = self.heard(command);
         self.bytes(&record)
+    }
+
+    /// What is heard with a command. It keeps the layout, but that now and then
+    /// any flags, any word in bytes 2-3 and a count stand side by side.
+    fn heard(&mut self, command: Command) -> Record {
+        let mut record = self.random.record_for(command);
+        if self.random.chance(ANY_FLAGS_ONE_IN) {
+            record.flags = self.random.below(256) as u16;
+            record.transmit_command = match self.random.below(3) {
+                0 => 0,
+                1 => 1 << self.random.below(16),
+                _ => self.random.word(),
+            };
+            if self.random.chance(2) {
+                record.count = 0;
+                record.words.fill(0);
+            }
+        }
+        record
     }
 
     /// The value of a record, now and then spoiled.
     fn value(&mut self, mut record: Record) -> Record {
         if self.random.chance(SPOILED_ONE_IN) {
             match self.random.below(3) {
-                0 => record.flags = self.random.pick(&[8, 15, 64, 128, 255, 256, 0xFFFF]),
+                0 => record.flags = self.random.pick(&[128, 255, 256, 264, 0xFFFF]),
                 1 => record.count = self.random.pick(&[34, 64, 255, 256, 288, 0xFFFF]),
                 _ => {
                     record.count = self.random.below(RECORD_WORDS) as u16;
@@ -422,10 +448,10 @@ impl Episode {
 
     /// The bytes of a record, now and then spoiled.
     fn bytes(&mut self, record: &Record) -> [u8; RECORD_BYTES] {
-        let mut bytes = write_record(record).expect("the record keeps its layout");
+        let mut bytes = put_together(record);
         if self.random.chance(SPOILED_ONE_IN) {
             match self.random.below(4) {
-                0 => bytes[6] = self.random.pick(&[8, 16, 128, 255]),
+                0 => bytes[6] |= 128,
                 1 => bytes[7] = self.random.pick(&[34, 35, 64, 255]),
                 2 => {
                     let place = self.random.pick(&[2, 3, 8, 9, 10, 11, 12, 13, 14, 15]);

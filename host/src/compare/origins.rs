@@ -68,7 +68,7 @@ impl Asked {
             self.settings.stack_size = 300;
         }
         if random.chance(SPOILED_ONE_IN) {
-            self.settings.address = 31;
+            self.settings.address = random.pick(&[31, 32]);
         }
     }
 

@@ -9,8 +9,9 @@
 //! - `remembered COMMAND STATUS`;
 //! - `reply WORD...`: what stands in the reply room, from its front on;
 //! - `bytes BYTE...`: a message as bytes, in any number;
-//! - `value COMMAND tag WORD flags WORD count N words WORD...`: a message as a
-//!   value that keeps the layout or breaks it; words left out are 0000.
+//! - `value COMMAND from WORD tag WORD flags WORD count N words WORD...`: a
+//!   message as a value that keeps the layout or breaks it; words left out are
+//!   0000.
 //!
 //! Left out, the settings are those of the trace program, and 4,096 words of
 //! RAM and 33 of reply are lent. There is one message in all.
@@ -76,12 +77,16 @@ fn write_bytes(text: &mut String, bytes: &[u8]) -> fmt::Result {
 fn write_value(text: &mut String, record: &Record) -> fmt::Result {
     let Record {
         command,
+        transmit_command,
         tag,
         flags,
         count,
         words,
     } = record;
-    write!(text, "value {command:04X} tag {tag:04X} ")?;
+    write!(
+        text,
+        "value {command:04X} from {transmit_command:04X} tag {tag:04X} "
+    )?;
     write!(text, "flags {flags:04X} count {count} words")?;
     let last = words.iter().rposition(|&word| word != 0);
     write_words(text, &words[..last.map_or(0, |place| place + 1)])?;
@@ -215,6 +220,8 @@ fn read_value(tokens: &mut Tokens) -> Result<Record, Mismatch> {
         command: tokens.hex_word("a command")?,
         ..Record::default()
     };
+    tokens.name("from")?;
+    record.transmit_command = tokens.hex_word("a transmit command")?;
     tokens.name("tag")?;
     record.tag = tokens.hex_word("a time tag")?;
     tokens.name("flags")?;

@@ -74,6 +74,7 @@ impl<T: Clone + PartialEq, F: Fn(&T) -> bool> Shrinking<T, F> {
         for (_, switch) in Settings::SWITCHES {
             smaller |= self.take(|t| *switch(settings(t)) = false);
         }
+        smaller |= self.take(|t| settings(t).broadcast = true);
         smaller
     }
 
@@ -84,8 +85,12 @@ impl<T: Clone + PartialEq, F: Fn(&T) -> bool> Shrinking<T, F> {
             smaller |= self.take(|t| change(record(t)));
         };
         attempt(&|record| record.tag = 0);
+        attempt(&|record| record.transmit_command = 0);
         attempt(&|record| record.flags = 0);
         attempt(&|record| record.flags /= 2);
+        for flag in 0..16 {
+            attempt(&|record| record.flags &= !(1 << flag));
+        }
         for place in 0..RECORD_WORDS {
             attempt(&|record| record.words[place] = 0);
         }

@@ -2,8 +2,8 @@
 
 use crate::terminal::records::RECORD_BYTES;
 use crate::terminal::{
-    carry_out_planted, check_area, read_record, write_record, Answer, MessageRef, Planted, Record,
-    Remembered, Settings,
+    carry_out_planted, check_area, read_record_planted, write_record_planted, Answer, MessageRef,
+    Planted, Record, Remembered, Settings,
 };
 
 /// A terminal that can be compared with another.
@@ -47,11 +47,11 @@ impl Side for Plain {
     }
 
     fn read_record(&self, bytes: &[u8]) -> (u16, Record) {
-        numbered(read_record(bytes), Record::default())
+        numbered(read_record_planted(self.0, bytes), Record::default())
     }
 
     fn write_record(&self, record: &Record) -> (u16, [u8; RECORD_BYTES]) {
-        numbered(write_record(record), [0; RECORD_BYTES])
+        numbered(write_record_planted(self.0, record), [0; RECORD_BYTES])
     }
 }
 

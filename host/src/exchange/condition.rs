@@ -40,7 +40,7 @@ impl Use {
 /// "well-formed data messages for this terminal"
 pub fn is_well_formed(settings: &Settings, record: &Record) -> bool {
     let command = Command(record.command);
-    let ours = command.address() == settings.address || command.is_broadcast();
+    let ours = settings.is_ours(command);
     record.keeps_layout() && ours && (1..=30).contains(&command.subaddress())
 }
 

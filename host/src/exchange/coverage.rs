@@ -7,6 +7,7 @@ use super::said::Both;
 use crate::compare::classes;
 use crate::terminal::cells::{Stack, DESCRIPTOR_WORDS};
 use crate::terminal::message::REPLY_WORDS;
+use crate::terminal::settings::BROADCAST_ADDRESS;
 use crate::terminal::words::Command;
 use crate::terminal::Answer;
 
@@ -40,6 +41,10 @@ classes! {
     Illegal "exchanges with an illegal message",
     Busy "exchanges with a busy message",
     Broadcast "exchanges with a broadcast message",
+    Transfer "exchanges with a good transfer",
+    TransferFault "exchanges with a transfer without status, with a wrong gap or a bad second command",
+    Off "exchanges with broadcast off",
+    At31 "exchanges at address 31, with broadcast off",
     Equal "exchanges with a message that has an equal in its list",
     KeptCell "neighbours left in place: one cell",
     KeptReceives "neighbours left in place: two receives, windows meet",
@@ -115,8 +120,12 @@ impl Coverage {
             self.take_in_uses(pair.map(|number| &uses[number]));
             self.take_in_answers(pair.map(|number| &both.old.shown[number].answer));
             let command = |number: usize| Command(list.messages[number].command);
-            let broadcast = pair.iter().any(|&number| command(number).is_broadcast());
+            let broadcast = pair
+                .iter()
+                .any(|&number| list.settings.is_broadcast(command(number)));
             self.note(Class::Broadcast, broadcast);
+            self.note(Class::Off, !list.settings.broadcast);
+            self.note(Class::At31, list.settings.address == BROADCAST_ADDRESS);
             self.note(Class::Equal, pair.iter().any(|&number| equal[number]));
             order.swap(place, place + 1);
         }
@@ -146,7 +155,11 @@ impl Coverage {
         let illegal = pair.iter().any(|answer| answer.block_status & 0x0040 != 0);
         let busy = pair.iter().any(|answer| answer.status & 0x0008 != 0);
         let moves = |answer: &&Answer| answer.pointer_before != answer.pointer_after;
+        let transfer = |answer: &&Answer| answer.block_status & 0x1800 == 0x0800;
+        let transfer_fault = |answer: &&Answer| answer.block_status & 0x0206 != 0;
         self.note(if faulty { Faulty } else { Faultless }, true);
+        self.note(Transfer, pair.iter().any(transfer));
+        self.note(TransferFault, pair.iter().any(transfer_fault));
         self.note(Illegal, illegal);
         self.note(Busy, busy);
         self.note(PointersMove, pair.iter().all(moves));

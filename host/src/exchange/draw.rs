@@ -11,7 +11,8 @@ use crate::compare::episode::Episode;
 use crate::random::Random;
 use crate::terminal::cells::DESCRIPTOR_WORDS;
 use crate::terminal::message::REPLY_WORDS;
-use crate::terminal::words::{Command, BROADCAST_ADDRESS};
+use crate::terminal::settings::BROADCAST_ADDRESS;
+use crate::terminal::words::Command;
 use crate::terminal::{Record, Settings};
 
 /// Messages of a list, unless it is to fill its stack.
@@ -64,7 +65,7 @@ fn random_subaddresses(random: &mut Random) -> Vec<u16> {
 }
 
 fn random_command(random: &mut Random, settings: &Settings, subaddresses: &[u16]) -> Command {
-    let address = if random.chance(5) {
+    let address = if settings.broadcast && random.chance(5) {
         BROADCAST_ADDRESS
     } else {
         settings.address

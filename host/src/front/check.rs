@@ -20,9 +20,9 @@ pub fn run(given: &Given, output: &mut dyn Write) -> Result<ExitCode, Problem> {
         9 => unsound_cells(&ram, &source, cell),
         8 => {
             let faults = stack_faults(&ram, &source.settings).join(" and ");
-            format!("8: {}: {faults}\n", say::refusal(8))
+            format!("8: {}: {faults}\n", say::refusal(8, &source.settings))
         }
-        number => format!("{number}: {}\n", say::refusal(number)),
+        number => format!("{number}: {}\n", say::refusal(number, &source.settings)),
     };
     output.write_all(text.as_bytes()).map_err(problem::output)?;
     Ok(if number == 0 {

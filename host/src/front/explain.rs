@@ -20,6 +20,7 @@ pub fn explain(replay: &Replay, owners: &Owners, bytes: &[u8], answer: &Answer) 
     let mut lines = Vec::new();
     if unreadable == 0 {
         lines.push(asked(&record, &replay.settings, owners));
+        lines.extend(asked_of_the_other(&record, &replay.settings, owners));
     }
     if answer.number == 0 {
         lines.extend(accepted(replay, owners, &record, answer));
@@ -43,6 +44,18 @@ fn asked(record: &Record, settings: &Settings, owners: &Owners) -> String {
     )
 }
 
+/// Who sends in a transfer.
+fn asked_of_the_other(record: &Record, settings: &Settings, owners: &Owners) -> Option<String> {
+    let word = say::transmit_command(record)?;
+    let asked = say::command(word, settings, owners);
+    let said = format!("a transfer with transmit command {word:04X}");
+    Some(if Command(word).is_transmit() {
+        format!("{said}: {asked}")
+    } else {
+        format!("{said}, which is no transmit command ({asked}) and is not judged")
+    })
+}
+
 fn accepted(replay: &Replay, owners: &Owners, record: &Record, answer: &Answer) -> Vec<String> {
     let cell = replay.cell_of(answer);
     let places = replay.places(answer);
@@ -60,7 +73,7 @@ fn accepted(replay: &Replay, owners: &Owners, record: &Record, answer: &Answer) 
     let (block_status, interrupt) = (answer.block_status, answer.interrupt);
     let said = say::block_status(block_status);
     lines.push(format!("block status {block_status:04X}: {said}"));
-    lines.push(status(answer, record));
+    lines.push(status(answer, &replay.settings, record));
     let said = say::interrupt(interrupt);
     lines.push(format!("interrupt word {interrupt:04X}: {said}"));
     lines
@@ -180,12 +193,12 @@ fn pointer(owners: &Owners, answer: &Answer, cell: &CellDescription) -> String {
     format!("the pointer of {name} {went} in {}{over}", scheme(cell))
 }
 
-fn status(answer: &Answer, record: &Record) -> String {
+fn status(answer: &Answer, settings: &Settings, record: &Record) -> String {
     let word = answer.status;
     if answer.answered {
         return format!("answered with status {word:04X}: {}", say::status(word));
     }
-    let why = if Command(record.command).is_broadcast() {
+    let why = if settings.is_broadcast(Command(record.command)) {
         "a broadcast is not answered"
     } else {
         "a faulty message is not answered"
@@ -208,7 +221,7 @@ pub fn why_refused(
         [high, low, ..] => Command(u16::from_be_bytes([*high, *low])),
         _ => Command(0),
     };
-    let reason = say::refusal(number);
+    let reason = say::refusal(number, settings);
     match number {
         5 => format!("{reason}: {}", say::layout_faults(bytes).join(" and ")),
         6 => format!("{reason}, which is {}", settings.address),

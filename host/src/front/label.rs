@@ -88,7 +88,7 @@ impl Shared<'_> {
         let settings = &self.source.settings;
         let kinds = KINDS.into_iter();
         kinds
-            .filter(|&kind| kind != Kind::Broadcast || settings.separate_broadcast)
+            .filter(|&kind| kind != Kind::Broadcast || settings.has_broadcast_cells())
             .map(|kind| self.cell(names::cell_number(kind, subaddress)))
             .collect()
     }
@@ -133,7 +133,7 @@ impl Shared<'_> {
     }
 
     fn refused(&self, number: u16) -> Problem {
-        let mut why = say::refusal(number).to_string();
+        let mut why = say::refusal(number, &self.source.settings).to_string();
         if number == 8 {
             let faults = stack_faults(self.ram, &self.source.settings);
             why += &format!(": {}", faults.join(" and "));

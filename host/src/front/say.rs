@@ -1,8 +1,10 @@
 //! The terminal's words and numbers in plain language.
 
 use super::names::{count, subaddress_name};
+use crate::terminal::layout::{broken_rules, Rule};
 use crate::terminal::records::{
-    Record, FLAG_BUS_B, FLAG_INVALID_WORD, FLAG_WRONG_SYNC, RECORD_BYTES, TOO_MANY,
+    Record, FLAG_BUS_B, FLAG_GAP, FLAG_INVALID_WORD, FLAG_NO_STATUS, FLAG_SECOND, FLAG_WRONG_SYNC,
+    RECORD_BYTES, TOO_MANY,
 };
 use crate::terminal::words::Command;
 use crate::terminal::Settings;
@@ -15,11 +17,18 @@ const BLOCK_STATUS: &Bits = &[
     (0x8000, "message done"),
     (0x2000, "bus B"),
     (0x1400, "a fault"),
+    (0x0800, "transfer"),
+    (0x0200, "no status from the transmitter"),
     (0x0080, "rolled over"),
     (0x0040, "illegal"),
     (0x0020, "wrong number of words"),
     (0x0010, "wrong sync"),
     (0x0008, "invalid word"),
+    (
+        0x0004,
+        "wrong gap, sync or address in the transmitter's status",
+    ),
+    (0x0002, "bad second command"),
     (0x0001, "wrong contents"),
 ];
 
@@ -57,9 +66,9 @@ pub fn block_status(word: u16) -> String {
     bits(word, BLOCK_STATUS).join(", ")
 }
 
-/// What a block status says beside "done" and "a fault".
+/// What a block status says beside "done", "a fault" and "transfer".
 pub fn block_status_details(word: u16) -> String {
-    let details = BLOCK_STATUS.iter().filter(|(bit, _)| bit & 0x9440 == 0);
+    let details = BLOCK_STATUS.iter().filter(|(bit, _)| bit & 0x9C40 == 0);
     let set = details.filter(|(bit, _)| word & bit != 0);
     let names: Vec<&str> = set.map(|(_, name)| *name).collect();
     names.join(", ")
@@ -100,9 +109,9 @@ pub fn rolled_over(block_status: u16) -> bool {
 /// What a command asks: `terminal 5 receives 4 words at subaddress 3 (Anna)`.
 pub fn command(word: u16, settings: &Settings, owners: &Owners) -> String {
     let command = Command(word);
-    let ours = command.address() == settings.address || command.is_broadcast();
+    let ours = settings.is_ours(command);
     let who = match command.address() {
-        _ if command.is_broadcast() => "broadcast: every terminal".to_string(),
+        _ if settings.is_broadcast(command) => "broadcast: every terminal".to_string(),
         address => format!("terminal {address}"),
     };
     let what = match command.subaddress() {
@@ -118,6 +127,41 @@ pub fn command(word: u16, settings: &Settings, owners: &Owners) -> String {
     }
 }
 
+/// The command that the other terminal of a transfer had; none where there is
+/// no transfer.
+pub fn transmit_command(record: &Record) -> Option<u16> {
+    record.is_transfer().then_some(record.transmit_command)
+}
+
+/// For the end of a sentence: `, a transfer from terminal 2`, or nothing.
+pub fn transfer(transmit_command: Option<u16>) -> String {
+    transmit_command.map_or(String::new(), |word| {
+        format!(", a transfer from {}", sender(word))
+    })
+}
+
+fn sender(transmit_command: u16) -> String {
+    format!("terminal {}", Command(transmit_command).address())
+}
+
+/// What went wrong with a transfer before its first word.
+fn transfer_faults(record: &Record) -> Vec<String> {
+    let sender = sender(record.transmit_command);
+    let mut wrong = Vec::new();
+    if record.has_flag(FLAG_NO_STATUS) {
+        wrong.push(format!("{sender} gave no status"));
+    }
+    if record.has_flag(FLAG_GAP) {
+        wrong.push(format!(
+            "the status of {sender} had a wrong gap, sync or address"
+        ));
+    }
+    if record.has_flag(FLAG_SECOND) {
+        wrong.push("the second command was bad".into());
+    }
+    wrong
+}
+
 /// How a message went on the bus: what was heard, and what was wrong with it.
 pub fn heard(record: &Record, block_status: u16) -> String {
     let expected = Command(record.command).expected_words();
@@ -125,7 +169,7 @@ pub fn heard(record: &Record, block_status: u16) -> String {
         TOO_MANY => "more than 32 words".to_string(),
         number => count(number.into(), "good word"),
     };
-    let mut wrong = Vec::new();
+    let mut wrong = transfer_faults(record);
     if block_status & 0x0020 != 0 {
         wrong.push(format!("{words} came and {expected} were expected"));
     }
@@ -158,11 +202,14 @@ pub fn bus(record: &Record) -> char {
 }
 
 /// Why a number refuses, as far as the number says it.
-pub fn refusal(number: u16) -> &'static str {
+pub fn refusal(number: u16, settings: &Settings) -> &'static str {
     match number {
         1 => "the RAM is not 4,096 words",
         2 => "the reply buffer is under 33 words",
-        3 => "the RT address is over 30, or the stack size is none of 256, 512, 1024, 2048",
+        3 if settings.broadcast => {
+            "the RT address is over 30, or the stack size is none of 256, 512, 1024, 2048"
+        }
+        3 => "the RT address is over 31, or the stack size is none of 256, 512, 1024, 2048",
         4 => "the record is not 80 bytes",
         5 => "the record breaks its layout",
         6 => "not for this terminal",
@@ -176,24 +223,22 @@ pub fn refusal(number: u16) -> &'static str {
 
 /// What breaks the layout of a record.
 pub fn layout_faults(bytes: &[u8]) -> Vec<String> {
-    let mut faults = Vec::new();
-    if bytes.len() != RECORD_BYTES {
-        return faults;
-    }
-    for (name, range) in [("2-3", 2..4), ("8-15", 8..16)] {
-        if bytes[range].iter().any(|&byte| byte != 0) {
-            faults.push(format!("bytes {name} are not zero"));
+    let bytes: &[u8; RECORD_BYTES] = match bytes.try_into() {
+        Ok(bytes) => bytes,
+        Err(_) => return Vec::new(),
+    };
+    let (flags, count) = (bytes[6], bytes[7]);
+    let say = |rule: &Rule| match rule {
+        Rule::ZeroBytes => "bytes 8-15 are not zero".to_string(),
+        Rule::Flags => format!("flags {flags} have a bit over 64"),
+        Rule::Count => format!("count {count} is over 33"),
+        Rule::WordsAfter => format!("words after the first {count} are not zero"),
+        Rule::TransferReceives => "flag 8 is on a transmit command".to_string(),
+        Rule::FaultOfTransfer => format!("flags {flags} have one of 16 to 64 without flag 8"),
+        Rule::CommandOfTransfer => "bytes 2-3 are not zero without flag 8".to_string(),
+        Rule::NoWordAfterFault => {
+            format!("count {count} is not 0 with one of flags 16 to 64")
         }
-    }
-    if bytes[6] > 7 {
-        faults.push(format!("flags {} have a bit over 4", bytes[6]));
-    }
-    if bytes[7] > 33 {
-        faults.push(format!("count {} is over 33", bytes[7]));
-    }
-    let held = 16 + 2 * usize::from(bytes[7]).min(32);
-    if bytes[held..].iter().any(|&byte| byte != 0) {
-        faults.push(format!("words after the first {} are not zero", bytes[7]));
-    }
-    faults
+    };
+    broken_rules(bytes).iter().map(say).collect()
 }

@@ -77,7 +77,7 @@ fn beyond(walk: &Walk, range: &Range<usize>) -> Option<u16> {
 }
 
 fn refused(source: &Source, number: u16) -> Problem {
-    let why = say::refusal(number);
+    let why = say::refusal(number, &source.settings);
     Problem::Input(format!("{}: refused with {number}: {why}", source.name))
 }
 
@@ -136,7 +136,8 @@ fn line(history: &History, owners: &Owners, range: Range<usize>) -> String {
     }
 }
 
-/// The tag of a data word's message, and how it went where it was not good.
+/// The tag of a data word's message, who sent it in a transfer, and how it went
+/// where it was not good.
 fn how(history: &History, origin: &Origin, address: usize) -> String {
     match origin.part {
         Part::Data(_) => {
@@ -145,7 +146,8 @@ fn how(history: &History, origin: &Origin, address: usize) -> String {
                 "good" => String::new(),
                 bad => format!(", {bad}"),
             };
-            format!(", tag {:04X}{verdict}", facts.tag)
+            let transfer = say::transfer(facts.transmit_command);
+            format!(", tag {:04X}{transfer}{verdict}", facts.tag)
         }
         _ => String::new(),
     }

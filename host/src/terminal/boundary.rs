@@ -14,11 +14,11 @@ use super::records::RECORD_WORDS;
 use super::{carry_out, Answer, MessageRef, Record, Remembered, Settings};
 
 /// Words of the settings: see the header for each.
-pub const SETTINGS_WORDS: usize = 11;
+pub const SETTINGS_WORDS: usize = 12;
 /// Words of what is remembered.
 pub const REMEMBERED_WORDS: usize = 2;
 /// Words of a record value.
-pub const VALUE_WORDS: usize = HEAD_WORDS + RECORD_WORDS;
+pub const VALUE_WORDS: usize = TRANSMIT_COMMAND + 1;
 /// Words of an answer.
 pub const ANSWER_WORDS: usize = 9;
 /// Cells that there can be: three kinds, thirty subaddresses.
@@ -39,6 +39,9 @@ pub const STACK_DESCRIPTION_WORDS: usize = 4;
 
 /// Words of a value before its data words.
 const HEAD_WORDS: usize = 4;
+/// Where a value has the transmit command: last, so that the words before it
+/// are where they were before there were transfers.
+const TRANSMIT_COMMAND: usize = HEAD_WORDS + RECORD_WORDS;
 
 /// The number in the upper 16 bits, the lowest unsound cell in the lower.
 #[inline(never)]
@@ -191,6 +194,8 @@ fn settings_of(words: &[u16]) -> Settings {
         service_request: yes(8),
         subsystem_flag: yes(9),
         terminal_flag: yes(10),
+        // Says that it is off, so that eleven words mean on.
+        broadcast: !yes(11),
     }
 }
 
@@ -207,6 +212,7 @@ pub fn settings_words(settings: &Settings) -> [u16; SETTINGS_WORDS] {
         settings.service_request.into(),
         settings.subsystem_flag.into(),
         settings.terminal_flag.into(),
+        (!settings.broadcast).into(),
     ]
 }
 
@@ -229,6 +235,7 @@ pub fn record_of(value: &[u16]) -> Record {
     }
     Record {
         command: word_at(value, 0),
+        transmit_command: word_at(value, TRANSMIT_COMMAND),
         tag: word_at(value, 1),
         flags: word_at(value, 2).min(0xFF),
         count: word_at(value, 3).min(0xFF),
@@ -238,9 +245,10 @@ pub fn record_of(value: &[u16]) -> Record {
 
 pub fn value_words(record: &Record) -> [u16; VALUE_WORDS] {
     let mut value = [0; VALUE_WORDS];
-    let (head, words) = value.split_at_mut(HEAD_WORDS);
-    head.copy_from_slice(&[record.command, record.tag, record.flags, record.count]);
-    words.copy_from_slice(&record.words);
+    let head = [record.command, record.tag, record.flags, record.count];
+    value[..HEAD_WORDS].copy_from_slice(&head);
+    value[HEAD_WORDS..TRANSMIT_COMMAND].copy_from_slice(&record.words);
+    value[TRANSMIT_COMMAND] = record.transmit_command;
     value
 }
 

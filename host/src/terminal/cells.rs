@@ -211,7 +211,7 @@ fn first_unsound_cell(ram: &[u16], settings: &Settings, stack: &Stack) -> Option
 
 /// The cells that the whole-area check reads, in rising number.
 pub fn cells_read<'a>(ram: &'a [u16], settings: &'a Settings) -> impl Iterator<Item = Cell> + 'a {
-    let kinds: &[Kind] = if settings.separate_broadcast {
+    let kinds: &[Kind] = if settings.has_broadcast_cells() {
         &[Kind::Receive, Kind::Transmit, Kind::Broadcast]
     } else {
         &[Kind::Receive, Kind::Transmit]

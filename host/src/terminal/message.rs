@@ -6,13 +6,13 @@ use super::cells::{
     check_ram, lookup_place, stack_pointer_place, Cell, Kind, Scheme, Stack, DESCRIPTOR_WORDS,
     RAM_WORDS,
 };
+use super::faults::Faults;
 use super::planted::{
     with_planted, Planted, FAULTY_STORES_WHEN_DISABLED, NONE, POINTER_AFTER_IN_DESCRIPTOR,
-    ROLLOVER_WHEN_KEPT_BACK, WRAP_BY_WORD_COUNT, ZERO_COUNT_IS_NONE,
+    ROLLOVER_WHEN_KEPT_BACK, TRANSFER_BITS_EXCHANGED, TRANSMIT_COMMAND_IN_DESCRIPTOR,
+    WRAP_BY_WORD_COUNT, ZERO_COUNT_IS_NONE,
 };
-use super::records::{
-    read_record, Record, FLAG_BUS_B, FLAG_INVALID_WORD, FLAG_WRONG_SYNC, RECORD_WORDS,
-};
+use super::records::{read_record_with, Record, FLAG_BUS_B, RECORD_WORDS};
 use super::refusal;
 use super::settings::Settings;
 use super::tables::{is_illegal, is_marked_busy};
@@ -90,10 +90,10 @@ pub(super) fn carry_out_with<const PLANTED: u8>(
     let lent = check_lent(ram, reply, settings);
     let outcome = match message {
         MessageRef::Bytes(bytes) => lent
-            .and_then(|()| read_record(bytes))
+            .and_then(|()| read_record_with::<PLANTED>(bytes))
             .and_then(|record| perform::<PLANTED>(ram, reply, settings, &record)),
         MessageRef::Value(record) => lent
-            .and_then(|()| record.check())
+            .and_then(|()| record.check::<PLANTED>())
             .and_then(|()| perform::<PLANTED>(ram, reply, settings, record)),
     };
     settle(outcome, remembered)
@@ -132,7 +132,7 @@ fn perform<const PLANTED: u8>(
     let (stack, cell) = locate(ram, settings, command)?;
     let judged = Judged::new::<PLANTED>(ram, settings, record);
     let status = status_word(&judged, settings);
-    let answered = judged.is_valid() && !command.is_broadcast();
+    let answered = judged.is_valid() && !judged.broadcast;
     if answered {
         reply[0] = status;
     }
@@ -140,7 +140,7 @@ fn perform<const PLANTED: u8>(
     let moved = move_words::<PLANTED>(ram, reply, settings, record, &judged, &cell);
     let valid = judged.is_valid();
     let (pointer_after, rollover) = move_pointer::<PLANTED>(ram, settings, &cell, moved, valid);
-    let block_status = block_status(&judged, record, rollover);
+    let block_status = block_status::<PLANTED>(&judged, record, rollover);
     let descriptor = descriptor::<PLANTED>(block_status, record, cell.pointer, pointer_after);
     let stack_wrapped = push_descriptor(ram, settings, &stack, &descriptor);
 
@@ -183,7 +183,7 @@ pub(super) fn locate(
 
 /// Tests 6 and 7: whether the command is one for this terminal's cells.
 fn check_command(command: Command, settings: &Settings) -> Result<(), u16> {
-    if command.address() != settings.address && !command.is_broadcast() {
+    if !settings.is_ours(command) {
         return Err(refusal::ADDRESS);
     }
     match command.subaddress() {
@@ -196,7 +196,7 @@ fn check_command(command: Command, settings: &Settings) -> Result<(), u16> {
 pub fn cell_kind(command: Command, settings: &Settings) -> Kind {
     if command.is_transmit() {
         Kind::Transmit
-    } else if command.is_broadcast() && settings.separate_broadcast {
+    } else if settings.is_broadcast(command) && settings.separate_broadcast {
         Kind::Broadcast
     } else {
         Kind::Receive
@@ -208,10 +208,8 @@ pub(super) struct Judged {
     command: Command,
     /// Data words that the command asks for.
     word_count: u16,
-    count_fault: bool,
-    sync_fault: bool,
-    invalid_word: bool,
-    contents_fault: bool,
+    broadcast: bool,
+    faults: Faults,
     illegal: bool,
     busy: bool,
 }
@@ -228,24 +226,19 @@ impl Judged {
         } else {
             command.word_count()
         };
-        let expected = if command.is_transmit() { 0 } else { word_count };
-        let sync_fault = record.has_flag(FLAG_WRONG_SYNC);
-        let invalid_word = record.has_flag(FLAG_INVALID_WORD);
+        let broadcast = settings.is_broadcast(command);
         Judged {
             command,
             word_count,
-            // A flagged fault cuts the count short, so it says nothing more.
-            count_fault: record.count != expected && !sync_fault && !invalid_word,
-            sync_fault,
-            invalid_word,
-            contents_fault: command.is_broadcast() && command.is_transmit(),
-            illegal: is_illegal(ram, command),
-            busy: settings.busy_always || is_marked_busy(ram, command),
+            broadcast,
+            faults: Faults::of::<PLANTED>(record, word_count, broadcast),
+            illegal: is_illegal(ram, settings, command),
+            busy: settings.busy_always || is_marked_busy(ram, settings, command),
         }
     }
 
     pub(super) fn is_valid(&self) -> bool {
-        !(self.count_fault || self.sync_fault || self.invalid_word || self.contents_fault)
+        !self.faults.any()
     }
 
     /// Rule 3.
@@ -380,7 +373,12 @@ fn descriptor<const PLANTED: u8>(
     } else {
         pointer_before
     };
-    [block_status, record.tag, pointer, record.command]
+    let command = if PLANTED == TRANSMIT_COMMAND_IN_DESCRIPTOR && record.is_transfer() {
+        record.transmit_command
+    } else {
+        record.command
+    };
+    [block_status, record.tag, pointer, command]
 }
 
 /// Rule 6; returns whether the stack wrapped.
@@ -396,19 +394,32 @@ fn push_descriptor(
     wrapped
 }
 
-/// Rule 7.
-pub(super) fn block_status(judged: &Judged, record: &Record, rollover: bool) -> u16 {
-    let fault = !judged.is_valid();
+/// Rule 7, with the bits of a transfer.
+pub(super) fn block_status<const PLANTED: u8>(
+    judged: &Judged,
+    record: &Record,
+    rollover: bool,
+) -> u16 {
+    let faults = &judged.faults;
+    let (no_status, gap) = if PLANTED == TRANSFER_BITS_EXCHANGED {
+        (2, 9)
+    } else {
+        (9, 2)
+    };
     bit(15, true)
         | bit(13, record.has_flag(FLAG_BUS_B))
-        | bit(12, fault)
-        | bit(10, fault)
+        | bit(12, faults.any())
+        | bit(11, record.is_transfer())
+        | bit(10, faults.any())
+        | bit(no_status, faults.no_status)
         | bit(7, rollover)
         | bit(6, judged.illegal)
-        | bit(5, judged.count_fault)
-        | bit(4, judged.sync_fault)
-        | bit(3, judged.invalid_word)
-        | bit(0, judged.contents_fault)
+        | bit(5, faults.count)
+        | bit(4, faults.sync)
+        | bit(3, faults.invalid_word)
+        | bit(gap, faults.gap)
+        | bit(1, faults.second)
+        | bit(0, faults.contents)
 }
 
 /// Rule 8.
@@ -416,7 +427,7 @@ fn status_word(judged: &Judged, settings: &Settings) -> u16 {
     (settings.address << 11)
         | bit(10, !judged.is_valid() || judged.illegal)
         | bit(8, settings.service_request)
-        | bit(4, judged.command.is_broadcast())
+        | bit(4, judged.broadcast)
         | bit(3, judged.busy)
         | bit(2, settings.subsystem_flag)
         | bit(0, settings.terminal_flag)

@@ -1,4 +1,5 @@
-//! Errors often seen in student builds, to be planted on purpose.
+//! Errors to be planted on purpose: those often seen in student builds, and
+//! those that transfers invite.
 //!
 //! A comparison of two terminals is worth something only if it can fail; a
 //! terminal with one of these errors must be told from a good one. The message
@@ -20,15 +21,33 @@ pub enum Planted {
     FaultyStoresWhenDisabled,
     /// Count field 0 asks for no words.
     ZeroCountIsNone,
+    /// A transfer fault hides no count fault.
+    CountBesideTransferFault,
+    /// Block status has "no status" at bit 2, and the wrong gap at bit 9.
+    TransferBitsExchanged,
+    /// The descriptor of a transfer holds the other terminal's command.
+    TransmitCommandInDescriptor,
+    /// Bytes 2-3 are let through without flag 8.
+    UnmarkedTransmitCommand,
+    /// Flag 8 is let through on a transmit command.
+    TransferOnTransmit,
+    /// A count is let through with flags 16 to 64.
+    CountWithTransferFault,
 }
 
 impl Planted {
-    pub const ERRORS: [Planted; 5] = [
+    pub const ERRORS: [Planted; 11] = [
         Planted::PointerAfterInDescriptor,
         Planted::RolloverWhenKeptBack,
         Planted::WrapByWordCount,
         Planted::FaultyStoresWhenDisabled,
         Planted::ZeroCountIsNone,
+        Planted::CountBesideTransferFault,
+        Planted::TransferBitsExchanged,
+        Planted::TransmitCommandInDescriptor,
+        Planted::UnmarkedTransmitCommand,
+        Planted::TransferOnTransmit,
+        Planted::CountWithTransferFault,
     ];
 
     /// The name that a person types.
@@ -40,6 +59,12 @@ impl Planted {
             Planted::WrapByWordCount => "wrap-by-word-count",
             Planted::FaultyStoresWhenDisabled => "faulty-stores-when-disabled",
             Planted::ZeroCountIsNone => "zero-count-is-none",
+            Planted::CountBesideTransferFault => "count-beside-transfer-fault",
+            Planted::TransferBitsExchanged => "transfer-bits-exchanged",
+            Planted::TransmitCommandInDescriptor => "transmit-command-in-descriptor",
+            Planted::UnmarkedTransmitCommand => "unmarked-transmit-command",
+            Planted::TransferOnTransmit => "transfer-on-transmit",
+            Planted::CountWithTransferFault => "count-with-transfer-fault",
         }
     }
 
@@ -60,6 +85,12 @@ pub(super) const ROLLOVER_WHEN_KEPT_BACK: u8 = Planted::RolloverWhenKeptBack as 
 pub(super) const WRAP_BY_WORD_COUNT: u8 = Planted::WrapByWordCount as u8;
 pub(super) const FAULTY_STORES_WHEN_DISABLED: u8 = Planted::FaultyStoresWhenDisabled as u8;
 pub(super) const ZERO_COUNT_IS_NONE: u8 = Planted::ZeroCountIsNone as u8;
+pub(super) const COUNT_BESIDE_TRANSFER_FAULT: u8 = Planted::CountBesideTransferFault as u8;
+pub(super) const TRANSFER_BITS_EXCHANGED: u8 = Planted::TransferBitsExchanged as u8;
+pub(super) const TRANSMIT_COMMAND_IN_DESCRIPTOR: u8 = Planted::TransmitCommandInDescriptor as u8;
+pub(super) const UNMARKED_TRANSMIT_COMMAND: u8 = Planted::UnmarkedTransmitCommand as u8;
+pub(super) const TRANSFER_ON_TRANSMIT: u8 = Planted::TransferOnTransmit as u8;
+pub(super) const COUNT_WITH_TRANSFER_FAULT: u8 = Planted::CountWithTransferFault as u8;
 
 /// Calls a function that takes the error as a constant parameter.
 macro_rules! with_planted {
@@ -72,6 +103,12 @@ macro_rules! with_planted {
             Planted::WrapByWordCount => $function::<WRAP_BY_WORD_COUNT> $arguments,
             Planted::FaultyStoresWhenDisabled => $function::<FAULTY_STORES_WHEN_DISABLED> $arguments,
             Planted::ZeroCountIsNone => $function::<ZERO_COUNT_IS_NONE> $arguments,
+            Planted::CountBesideTransferFault => $function::<COUNT_BESIDE_TRANSFER_FAULT> $arguments,
+            Planted::TransferBitsExchanged => $function::<TRANSFER_BITS_EXCHANGED> $arguments,
+            Planted::TransmitCommandInDescriptor => $function::<TRANSMIT_COMMAND_IN_DESCRIPTOR> $arguments,
+            Planted::UnmarkedTransmitCommand => $function::<UNMARKED_TRANSMIT_COMMAND> $arguments,
+            Planted::TransferOnTransmit => $function::<TRANSFER_ON_TRANSMIT> $arguments,
+            Planted::CountWithTransferFault => $function::<COUNT_WITH_TRANSFER_FAULT> $arguments,
         }
     }};
 }

@@ -1,8 +1,5 @@
 //! Fields of 16-bit words.
 
-/// The RT address that speaks to every terminal.
-pub const BROADCAST_ADDRESS: u16 = 31;
-
 /// A command word.
 #[derive(Clone, Copy, Debug, PartialEq, Eq)]
 pub struct Command(pub u16);
@@ -10,10 +7,6 @@ pub struct Command(pub u16);
 impl Command {
     pub fn address(self) -> u16 {
         self.0 >> 11
-    }
-
-    pub fn is_broadcast(self) -> bool {
-        self.address() == BROADCAST_ADDRESS
     }
 
     pub fn is_transmit(self) -> bool {

@@ -50,7 +50,7 @@ pub fn writes(ram: &[u16], settings: &Settings, record: &Record) -> Result<(u16,
         let address = lookup_place(settings, cell.kind, cell.subaddress);
         list.push(write(address, pointer, Part::Pointer));
     }
-    let status = block_status(&judged, record, rollover);
+    let status = block_status::<NONE>(&judged, record, rollover);
     let descriptor = [status, record.tag, cell.pointer, record.command];
     list.extend(entry(settings, &stack, descriptor));
     Ok((cell.number(), list))

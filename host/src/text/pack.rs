@@ -1,14 +1,13 @@
 //! From text to bytes.
 
+use super::message::read_message;
 use super::owners::Owners;
 use super::settings::read_settings;
 use super::tokens::{mismatch, shown, Mismatch, TextError, Tokens};
 use crate::terminal::cells::RAM_WORDS;
-use crate::terminal::records::{
-    Record, FLAG_BUS_B, FLAG_INVALID_WORD, FLAG_WRONG_SYNC, RECORD_BYTES, RECORD_WORDS, TOO_MANY,
-};
+use crate::terminal::records::RECORD_BYTES;
 use crate::terminal::trace::IMAGE_BYTES;
-use crate::terminal::{write_record, Settings};
+use crate::terminal::Settings;
 
 /// What a text says.
 pub struct TraceText {
@@ -188,16 +187,7 @@ impl Packer {
 
     fn message_line(&mut self, tokens: &mut Tokens) -> Result<(), Mismatch> {
         self.enter_records("message")?;
-        let record = read_message(tokens)?;
-        match write_record(&record) {
-            Ok(bytes) => self.records.extend_from_slice(&bytes),
-            Err(_) => {
-                return mismatch(
-                    format!("other words than 0000 after the first {}", record.count),
-                    "a larger count, or a raw line for a damaged record",
-                )
-            }
-        }
+        self.records.extend(read_message(tokens)?);
         Ok(())
     }
 
@@ -228,77 +218,3 @@ impl Packer {
 
 /// The bytes of a raw line that is not a whole record.
 const LONGEST_TAIL: usize = RECORD_BYTES - 1;
-
-const MESSAGE_PARTS: [&str; 5] = ["bus", "tag", "flags", "count", "words"];
-
-/// What follows `message`: the command and then the parts in any order.
-fn read_message(tokens: &mut Tokens) -> Result<Record, Mismatch> {
-    let mut record = Record {
-        command: tokens.hex_word("a command word")?,
-        ..Record::default()
-    };
-    let mut count = None;
-    let mut words_written = 0;
-    let mut parts_met = Vec::new();
-    while let Some(part) = tokens.next() {
-        if parts_met.contains(&part) {
-            return mismatch(format!("{part} a second time"), "each part once");
-        }
-        parts_met.push(part);
-        match part {
-            "bus" => record.flags |= read_bus(tokens)?,
-            "tag" => record.tag = tokens.hex_word("a time tag")?,
-            "flags" => record.flags |= read_flags(tokens)?,
-            "count" => count = Some(tokens.decimal("a count", TOO_MANY.into())?),
-            "words" => words_written = read_words(tokens, &mut record.words)?,
-            other => return mismatch(shown(Some(other)), "bus, tag, flags, count or words"),
-        }
-    }
-    record.count = count.unwrap_or(words_written) as u16;
-    Ok(record)
-}
-
-fn read_bus(tokens: &mut Tokens) -> Result<u16, Mismatch> {
-    match tokens.next() {
-        Some("A") => Ok(0),
-        Some("B") => Ok(FLAG_BUS_B),
-        other => mismatch(shown(other), "bus A or B"),
-    }
-}
-
-/// One or both of the fault names.
-fn read_flags(tokens: &mut Tokens) -> Result<u16, Mismatch> {
-    let mut flags = 0;
-    while !tokens.at_end_or(&MESSAGE_PARTS) {
-        flags |= match tokens.next() {
-            Some("sync") => FLAG_WRONG_SYNC,
-            Some("invalid") => FLAG_INVALID_WORD,
-            other => return mismatch(shown(other), "sync or invalid"),
-        };
-    }
-    if flags == 0 {
-        return mismatch("flags without a name", "sync or invalid");
-    }
-    Ok(flags)
-}
-
-/// One to 32 data words; returns how many.
-fn read_words(tokens: &mut Tokens, words: &mut [u16; RECORD_WORDS]) -> Result<usize, Mismatch> {
-    let mut written = 0;
-    while !tokens.at_end_or(&MESSAGE_PARTS) {
-        match words.get_mut(written) {
-            Some(word) => *word = tokens.hex_word("a data word")?,
-            None => {
-                return mismatch(
-                    "more than 32 words",
-                    "at most 32 (count 33 says more were heard)",
-                )
-            }
-        }
-        written += 1;
-    }
-    if written == 0 {
-        return mismatch("words without a word", "1 to 32 data words");
-    }
-    Ok(written)
-}

@@ -1,5 +1,6 @@
-//! The settings line: `settings address N area A|B stack N`, and then the names
-//! of the yes/no settings that are on.
+//! The settings line: `settings address N area A|B stack N`, and then what is not
+//! as in most terminals: the names of the yes/no settings that are on, and
+//! `broadcast off`.
 
 use std::fmt::{self, Write};
 
@@ -14,6 +15,9 @@ pub fn write_settings(text: &mut String, mut settings: Settings) -> fmt::Result 
         if *switch(&mut settings) {
             write!(text, " {name}")?;
         }
+    }
+    if !settings.broadcast {
+        write!(text, " broadcast off")?;
     }
     writeln!(text)
 }
@@ -36,13 +40,17 @@ pub fn read_settings(tokens: &mut Tokens) -> Result<Settings, Mismatch> {
         overwrite_invalid: false,
         ..Settings::TRACE
     };
-    for token in tokens {
+    while let Some(token) = tokens.next() {
         let mut switches = Settings::SWITCHES.iter();
         match switches.find(|(name, _)| *name == token) {
             Some((_, switch)) => *switch(&mut settings) = true,
+            None if token == "broadcast" => {
+                tokens.name("off")?;
+                settings.broadcast = false;
+            }
             None => {
                 let names = Settings::SWITCHES.map(|(name, _)| name).join(", ");
-                return mismatch(shown(Some(token)), format!("one of {names}"));
+                return mismatch(shown(Some(token)), format!("one of {names}, broadcast off"));
             }
         }
     }

@@ -2,10 +2,9 @@
 
 use std::fmt::{self, Write};
 
+use super::message::flag_names;
 use crate::terminal::read_record;
-use crate::terminal::records::{
-    Record, FLAG_BUS_B, FLAG_INVALID_WORD, FLAG_WRONG_SYNC, RECORD_BYTES, TOO_MANY,
-};
+use crate::terminal::records::{Record, FLAG_BUS_B, RECORD_BYTES, TOO_MANY};
 use crate::terminal::trace::IMAGE_BYTES;
 
 const WORDS_IN_LINE: usize = 8;
@@ -63,19 +62,14 @@ fn write_message(text: &mut String, record: &Record) -> fmt::Result {
     } else {
         'A'
     };
-    write!(
-        text,
-        "message {:04X} bus {bus} tag {:04X}",
-        record.command, record.tag
-    )?;
-    if record.has_flag(FLAG_WRONG_SYNC | FLAG_INVALID_WORD) {
-        text.push_str(" flags");
+    write!(text, "message {:04X}", record.command)?;
+    if record.is_transfer() {
+        write!(text, " from {:04X}", record.transmit_command)?;
     }
-    if record.has_flag(FLAG_WRONG_SYNC) {
-        text.push_str(" sync");
-    }
-    if record.has_flag(FLAG_INVALID_WORD) {
-        text.push_str(" invalid");
+    write!(text, " bus {bus} tag {:04X}", record.tag)?;
+    let flags = flag_names(record.flags);
+    if !flags.is_empty() {
+        write!(text, " flags {}", flags.join(" "))?;
     }
     if record.count == TOO_MANY {
         write!(text, " count {TOO_MANY}")?;

@@ -1,17 +1,19 @@
 //! The proved terminal, called through its boundary. Needs the feature
 //! `engine`.
 
+mod broadcast;
 mod labels;
 mod page;
 mod soundness;
 
+use plain_terminal::compare::case::{Case, Message, Request, State};
 use plain_terminal::compare::coverage::Coverage;
 use plain_terminal::compare::shrink::shrink;
 use plain_terminal::compare::sides::Proved;
 use plain_terminal::compare::{compare, Plain};
 use plain_terminal::engine::boundary as proved;
 use plain_terminal::random::Random;
-use plain_terminal::terminal::boundary::{self as plain, settings_words, value_words};
+use plain_terminal::terminal::boundary::{self as plain, settings_words, value_words, VALUE_WORDS};
 use plain_terminal::terminal::{write_record, Planted, Record, Settings};
 
 /// The example of the scope document: RT 5, a circle of 128 words.
@@ -86,6 +88,56 @@ fn every_planted_error_is_caught() {
     }
 }
 
+/// Every byte of flags with each kind of command, of bytes 2-3 and of count:
+/// reader, writer and both kinds of message.
+#[test]
+fn every_byte_of_flags() {
+    let (good, proved) = (Plain(Planted::None), Proved);
+    let mut accepted = 0;
+    for flags in 0..=255 {
+        for command in [0x2864, 0x2C64, 0x3064, 0xF864, 0xFC64] {
+            for (transmit_command, count) in [(0, 0), (0, 4), (0x1443, 0), (1, 4), (0x8000, 33)] {
+                let mut record = Record {
+                    command,
+                    transmit_command,
+                    flags,
+                    ..four_words()
+                };
+                record.count = count;
+                record.words[usize::from(count.min(32))..].fill(0);
+                let mut bytes = [0; 80];
+                bytes[..2].copy_from_slice(&command.to_be_bytes());
+                bytes[2..4].copy_from_slice(&transmit_command.to_be_bytes());
+                bytes[6..8].copy_from_slice(&[flags as u8, count as u8]);
+                for message in [Message::Bytes(bytes.to_vec()), Message::Value(record)] {
+                    let case = example_case(message);
+                    assert!(!case.differs(&good, &proved), "{record:?}");
+                    accepted += u32::from(case.run(&proved).0.answer.number == 0);
+                }
+            }
+        }
+    }
+    // Flags 0 to 7 without a transmit command, on the four commands for this
+    // terminal; flag 8 on its two receive commands: with flags 16 to 64 and no
+    // word, and with none of them.
+    assert_eq!(accepted, 2 * (8 * 4 * 2 + 8 * 2 * (7 * 2 + 5)));
+}
+
+fn example_case(message: Message) -> Case {
+    let mut state = State::default();
+    state.ram[..4096].copy_from_slice(&example_ram());
+    Case {
+        state,
+        request: Request {
+            settings: Settings::TRACE,
+            ram_words: 4096,
+            reply_words: 33,
+            message,
+            checks_area: false,
+        },
+    }
+}
+
 /// A slice whose length is any, up to a few more words than are used.
 fn any_length<T: Copy>(random: &mut Random, words: &[T], more: T) -> Vec<T> {
     let mut slice = words.to_vec();
@@ -145,7 +197,7 @@ fn slices_of_any_length_for_the_rest() {
 
         let record = random.record(5);
         let bytes = any_length(&mut random, &write_record(&record).unwrap(), 0);
-        let mut left = any_length(&mut random, &[0xEEEE; 36], 0xEEEE);
+        let mut left = any_length(&mut random, &[0xEEEE; VALUE_WORDS], 0xEEEE);
         let mut right = left.clone();
         assert_eq!(
             plain::read(&bytes, &mut left),

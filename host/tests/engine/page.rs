@@ -199,13 +199,55 @@ fn check_facts(played: &Played, number: u16, article: &str) {
     match played.newest(number, |_| true) {
         None => assert_eq!(newest, "none in this trace"),
         Some(record) => {
-            let tag = played.values[record - 1].tag;
-            let expected = format!("record {record}, tag <code>{tag:04X}</code>, ");
+            let value = &played.values[record - 1];
+            let (tag, transfer) = (value.tag, transfer(value));
+            let expected = format!("record {record}, tag <code>{tag:04X}</code>{transfer}, ");
             assert!(newest.starts_with(&expected), "{newest}, but {expected}");
+            check_transfer_faults(value, newest);
             let good = newest.contains("<b class=\"good\">good</b>");
             assert_eq!(good, is_good(&played.answers[record - 1]), "{newest}");
         }
     }
+}
+
+/// Who sent a message, where it was a transfer.
+fn transfer(value: &Record) -> String {
+    match value.flags & 8 {
+        0 => String::new(),
+        _ => format!(
+            ", a transfer from terminal {}",
+            value.transmit_command >> 11
+        ),
+    }
+}
+
+/// What went wrong with a transfer is told, and with nothing else.
+fn check_transfer_faults(value: &Record, told: &str) {
+    for (flag, words) in [
+        (16, "no status from the transmitter"),
+        (32, "wrong gap, sync or address in the transmitter"),
+        (64, "bad second command"),
+    ] {
+        assert_eq!(told.contains(words), value.flags & flag != 0, "{told}");
+    }
+}
+
+/// The last messages on the stack; returns how many were transfers.
+fn check_stack(played: &Played, page: &str) -> usize {
+    let (stack, _) = between(page, "<section class=\"stack\">", "</section>").unwrap();
+    let mut transfers = 0;
+    for row in stack.lines().filter(|line| line.starts_with("<tr><td>")) {
+        let (record, _) = between(row, "<tr><td>", "</td>").unwrap();
+        let record: usize = record.parse().unwrap();
+        let value = &played.values[record - 1];
+        let expected = format!("{}</td><td><b class", transfer(value));
+        assert!(row.contains(&expected), "{row}, but {expected}");
+        let is_transfer = value.flags & 8 != 0;
+        assert_eq!(row.contains("a transfer from"), is_transfer, "{row}");
+        check_transfer_faults(value, row);
+        transfers += usize::from(is_transfer);
+    }
+    transfers
 }
 
 /// A trace with an owner for every subaddress, as the program reads it.
@@ -225,7 +267,7 @@ fn source(image: &[u16], settings: Settings, records: &[[u8; 80]]) -> Source {
 /// Holds a page against what was played; returns how many cells had a section.
 fn check_page(played: &Played, unsound: &[u16], page: &str) -> usize {
     let mut sections = 0;
-    let kinds = if played.settings.separate_broadcast {
+    let kinds = if played.settings.has_broadcast_cells() {
         3
     } else {
         2
@@ -257,6 +299,7 @@ fn check_page(played: &Played, unsound: &[u16], page: &str) -> usize {
 #[test]
 fn pages_of_random_traces() {
     let mut sections = 0;
+    let mut transfers = 0;
     let mut seen = String::new();
     for seed in 1..=12 {
         let mut random = Random::new(seed);
@@ -274,9 +317,11 @@ fn pages_of_random_traces() {
         write_page(&mut page, "Random", &board).unwrap();
         let page = String::from_utf8(page).unwrap();
         sections += check_page(&played, &unsound, &page);
+        transfers += check_stack(&played, &page);
         seen += &page;
     }
     assert!(sections > 300, "{sections}");
+    assert!(transfers > 8, "{transfers}");
     for mark in ["N", "O", "F", "I", "a", "b", "a\u{2191}", "I\u{2192}"] {
         assert!(seen.contains(&format!("<i>{mark}</i></td>")), "{mark}");
     }

@@ -112,7 +112,7 @@ fn holds(name: &str, text: &str) {
 /// the other.
 #[test]
 fn pages_show_what_is_stored() {
-    for sample in ["pointer", "owners", "bad"] {
+    for sample in ["pointer", "owners", "bad", "transfers"] {
         holds(sample, &format!("examples/{sample}.txt"));
     }
     shell(&format!(

@@ -82,6 +82,11 @@ fn conversion_prints_what_is_stored() {
 }
 
 #[test]
+fn transfers_print_what_is_stored() {
+    holds("transfers");
+}
+
+#[test]
 fn help_prints_what_is_stored() {
     holds("help");
 }
@@ -106,5 +111,5 @@ fn samples_print_what_the_trace_program_prints() {
             }
         }
     }
-    assert!(samples >= 12, "{samples}");
+    assert!(samples >= 15, "{samples}");
 }

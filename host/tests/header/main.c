@@ -17,6 +17,8 @@ static uint16_t remembered[REMEMBERED] = {0, 0, UNTOUCHED};
 static uint16_t answer[ANSWER];
 static uint16_t receive[SOLKVERVA_VALUE_WORDS] = {0x2864, 0x0102, 0, 4, 0x1111, 0x2222, 0x3333, 0x4444};
 static uint16_t transmit[SOLKVERVA_VALUE_WORDS] = {0x2C62};
+/* Words of a value before there were transfers, and where the transmit command is now. */
+enum { OLD_VALUE_WORDS = 36, TRANSMIT_COMMAND = 36 };
 static uint8_t bytes[SOLKVERVA_RECORD_BYTES];
 
 static uint16_t from_bytes(size_t ram_words, size_t reply_words, size_t bytes_length)
@@ -143,6 +145,99 @@ static void each_number(void)
     assert(solkverva_write(receive, SOLKVERVA_VALUE_WORDS, bytes, sizeof bytes) == SOLKVERVA_RECORD_LAYOUT);
     assert(bytes[0] == 0 && bytes[79] == 0);
     receive[3] = 4;
+}
+
+/* Three words from terminal 2, subaddress 2, on bus B; then the same without a status. */
+static void a_transfer(void)
+{
+    uint16_t value[SOLKVERVA_VALUE_WORDS] = {0x2863, 0x0304, SOLKVERVA_BUS_B | SOLKVERVA_TRANSFER, 3, 1, 2, 3};
+    uint16_t read_back[SOLKVERVA_VALUE_WORDS + 1];
+
+    start();
+    value[TRANSMIT_COMMAND] = 0x1443;
+    assert(solkverva_write(value, SOLKVERVA_VALUE_WORDS, bytes, sizeof bytes) == SOLKVERVA_DONE);
+    assert(bytes[0] == 0x28 && bytes[1] == 0x63 && bytes[2] == 0x14 && bytes[3] == 0x43);
+    assert(bytes[6] == 9 && bytes[7] == 3);
+    read_back[SOLKVERVA_VALUE_WORDS] = UNTOUCHED;
+    assert(solkverva_read(bytes, sizeof bytes, read_back, SOLKVERVA_VALUE_WORDS + 1) == SOLKVERVA_DONE);
+    assert(memcmp(read_back, value, sizeof value) == 0 && read_back[SOLKVERVA_VALUE_WORDS] == UNTOUCHED);
+
+    assert(example() == SOLKVERVA_DONE);
+    check_answer(0xA880, 3, 0x047E, 0x0401, 0, 0x0403);
+    assert(ram[0] == 0xA880 && ram[1] == 0x0304 && ram[2] == 0x047E && ram[3] == 0x2863 && remembered[0] == 0x2863);
+
+    value[2] = SOLKVERVA_TRANSFER | SOLKVERVA_NO_STATUS;
+    assert(from_value(value) == SOLKVERVA_RECORD_LAYOUT);
+    memset(&value[3], 0, 4 * sizeof value[3]);
+    assert(from_value(value) == SOLKVERVA_DONE);
+    assert(answer[1] == 0x9E00 && answer[5] == 0x2C00 && answer[6] == 0 && answer[8] == 0x0013 && ram[7] == 0x2863);
+    value[2] = SOLKVERVA_TRANSFER | SOLKVERVA_WRONG_GAP | SOLKVERVA_BAD_SECOND;
+    assert(from_value(value) == SOLKVERVA_DONE && answer[1] == 0x9C06);
+    value[2] = SOLKVERVA_WRONG_SYNC | SOLKVERVA_INVALID_WORD;
+    assert(from_value(value) == SOLKVERVA_RECORD_LAYOUT);
+    value[TRANSMIT_COMMAND] = 0;
+    assert(from_value(value) == SOLKVERVA_DONE && answer[1] == 0x9418);
+    value[0] = 0x2C62;
+    value[2] = SOLKVERVA_TRANSFER;
+    assert(from_value(value) == SOLKVERVA_RECORD_LAYOUT);
+}
+
+/* A caller that lends the 36 words of old: no transmit command is read from them or put into them. */
+static void an_old_caller(void)
+{
+    uint16_t value[SOLKVERVA_VALUE_WORDS];
+
+    start();
+    memset(value, 0xEE, sizeof value);
+    assert(solkverva_read(bytes, sizeof bytes, value, OLD_VALUE_WORDS) == SOLKVERVA_DONE);
+    assert(memcmp(value, receive, OLD_VALUE_WORDS * sizeof value[0]) == 0 && value[TRANSMIT_COMMAND] == UNTOUCHED);
+    assert(solkverva_message_value(ram, SOLKVERVA_RAM_WORDS, reply, SOLKVERVA_REPLY_WORDS, settings,
+                                   SOLKVERVA_SETTINGS_WORDS, remembered, REMEMBERED, value, OLD_VALUE_WORDS, answer,
+                                   ANSWER) == SOLKVERVA_DONE);
+    assert(answer[1] == 0x8080 && ram[0x0143] == 0x0402);
+
+    bytes[2] = 0x14;
+    bytes[3] = 0x43;
+    bytes[6] = SOLKVERVA_TRANSFER;
+    assert(solkverva_read(bytes, sizeof bytes, value, OLD_VALUE_WORDS) == SOLKVERVA_DONE);
+    assert(value[2] == SOLKVERVA_TRANSFER && value[TRANSMIT_COMMAND] == UNTOUCHED);
+    assert(solkverva_write(value, OLD_VALUE_WORDS, bytes, sizeof bytes) == SOLKVERVA_DONE);
+    assert(bytes[2] == 0 && bytes[3] == 0 && bytes[6] == SOLKVERVA_TRANSFER);
+}
+
+/* The example as a message to address 31, to a terminal with this address and so many words of settings. */
+static uint16_t at_31(uint16_t address, size_t settings_words)
+{
+    settings[0] = address;
+    memset(answer, 0xEE, sizeof answer);
+    return solkverva_message(ram, SOLKVERVA_RAM_WORDS, reply, SOLKVERVA_REPLY_WORDS, settings, settings_words,
+                             remembered, REMEMBERED, bytes, sizeof bytes, answer, ANSWER);
+}
+
+/* Twelve words can turn broadcast off; eleven, which were all there were, have it on. */
+static void broadcast_on_and_off(void)
+{
+    enum { ELEVEN = 11, ALL = SOLKVERVA_SETTINGS_WORDS, OFF = 11, SEPARATE = 4 };
+
+    start();
+    bytes[0] = 0xF8;
+    settings[OFF] = 1;
+    assert(at_31(5, ELEVEN) == SOLKVERVA_DONE && answer[5] == 0x2810 && answer[6] == 0);
+    assert(at_31(31, ELEVEN) == SOLKVERVA_BAD_SETTINGS);
+    assert(at_31(5, ALL) == SOLKVERVA_OTHER_ADDRESS);
+    assert(at_31(32, ALL) == SOLKVERVA_BAD_SETTINGS);
+    assert(at_31(31, ALL) == SOLKVERVA_DONE && answer[5] == 0xF800 && answer[6] == 1 && reply[0] == 0xF800);
+    /* Broadcast cells are not there: with them, this one would point to the stack. */
+    settings[SEPARATE] = 1;
+    assert(at_31(31, ALL) == SOLKVERVA_DONE && answer[2] == 3);
+    bytes[0] = 0xFC;
+    bytes[1] = 0x62;
+    memset(bytes + 7, 0, sizeof bytes - 7);
+    assert(at_31(31, ALL) == SOLKVERVA_DONE && answer[1] == 0x8000 && answer[7] == 2 && reply[2] == 0xBBBB);
+    settings[OFF] = 0;
+    assert(at_31(31, ALL) == SOLKVERVA_BAD_SETTINGS);
+    assert(at_31(5, ALL) == SOLKVERVA_DONE && answer[1] == 0x9401 && answer[7] == 0);
+    settings[SEPARATE] = 0;
 }
 
 static void the_whole_area(void)
@@ -334,6 +429,9 @@ int main(void)
     the_reader_and_the_writer();
     the_worked_example();
     each_number();
+    a_transfer();
+    an_old_caller();
+    broadcast_on_and_off();
     the_whole_area();
     the_labels();
     refused_labels();

@@ -88,7 +88,7 @@ fn errors_in_a_case_name_the_line() {
         ),
         (LOUD, "line 1: found \"loud\", expected one of"),
         ("lent ram 9999 reply 33", LENT),
-        ("value 2861 tag", TAG),
+        ("value 2861 from 0 tag", TAG),
         ("value +1F", "line 1: found \"+1F\", expected a command of"),
         ("bytes 28 x", "line 1: found \"x\", expected pairs of"),
         (
@@ -101,7 +101,7 @@ fn errors_in_a_case_name_the_line() {
 
 #[test]
 fn a_case_has_each_line_once_and_one_message() {
-    const VALUE: &str = "value 2861 tag 0 flags 0 count 0 words\nraw 28";
+    const VALUE: &str = "value 2861 from 0 tag 0 flags 0 count 0 words\nraw 28";
     assert_errors(&[
         (
             "lent ram 1 reply 1\n\nlent ram 1 reply 1",
@@ -119,13 +119,18 @@ fn a_case_has_each_line_once_and_one_message() {
     ]);
 }
 
-/// What a trace prints shows three of the errors.
+/// What a trace prints shows these errors.
 #[test]
 fn planted_errors_are_caught_in_traces() {
     for planted in [
         Planted::RolloverWhenKeptBack,
         Planted::WrapByWordCount,
         Planted::ZeroCountIsNone,
+        Planted::CountBesideTransferFault,
+        Planted::TransferBitsExchanged,
+        Planted::UnmarkedTransmitCommand,
+        Planted::TransferOnTransmit,
+        Planted::CountWithTransferFault,
     ] {
         let differs = |trace: &[u8]| planted_trace_output(planted, trace) != trace_output(trace);
         let trace = (1..200).map(random_trace).find(|trace| differs(trace));
@@ -133,7 +138,7 @@ fn planted_errors_are_caught_in_traces() {
         let smallest = shrink_trace(&trace, differs);
         assert!(differs(&smallest));
         let records = (smallest.len() - 8192) / 80;
-        assert!(records <= 2, "{}: {records} records", planted.name());
+        assert!(records <= 3, "{}: {records} records", planted.name());
     }
 }
 
@@ -153,6 +158,10 @@ fn random_traces_have_every_kind_of_line() {
         assert!(lines.iter().any(|line| line.starts_with(start)), "{start}");
     }
     assert!(output.contains(" none "));
+    // Transfers: good, without a status, with a wrong gap, a bad second command.
+    for block_status in [" 8800 ", " 9E00 ", " 9C04 ", " 9C02 "] {
+        assert!(output.contains(block_status), "{block_status}");
+    }
 }
 
 #[test]

@@ -35,10 +35,14 @@ fn every_class_occurs_and_all_is_as_said() {
 fn every_condition_matters() {
     for forgotten in Forgotten::CONDITIONS {
         let list = found(&GOOD, forgotten).expect(forgotten.name());
-        assert_eq!(list.messages.len(), 2, "{}", write_list(&list));
-        assert_eq!(list.exchanges, [0]);
+        // One or two may be there to move a pointer to where the others show it.
+        let messages = list.messages.len();
+        assert!((2..=4).contains(&messages), "{}", write_list(&list));
+        assert_eq!(list.exchanges, [messages - 2]);
         let objection = list.objection(&GOOD, Forgotten::Nothing).unwrap();
-        assert_eq!(objection, "messages 1 and 2 may not change places");
+        let (a, b) = (messages - 1, messages);
+        let expected = format!("messages {a} and {b} may not change places");
+        assert_eq!(objection, expected);
         let words = list.start.ram.iter().filter(|&&word| word != 0).count();
         assert!(words <= 8, "{}", write_list(&list));
     }

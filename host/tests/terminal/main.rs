@@ -1,6 +1,7 @@
 //! Tests of the whole library, one file per subject.
 
 mod area;
+mod broadcast;
 mod compare;
 mod exchange;
 mod helpers;
@@ -16,4 +17,5 @@ mod samples;
 mod spread;
 mod text;
 mod trace;
+mod transfers;
 mod who;

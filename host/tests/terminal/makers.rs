@@ -2,10 +2,13 @@
 //! document.
 
 use plain_terminal::terminal::cells::{Cell, Kind, Scheme};
-use plain_terminal::terminal::records::{FLAG_BUS_B, FLAG_INVALID_WORD, FLAG_WRONG_SYNC};
+use plain_terminal::terminal::records::{
+    FLAG_BUS_B, FLAG_GAP, FLAG_INVALID_WORD, FLAG_NO_STATUS, FLAG_SECOND, FLAG_TRANSFER,
+    FLAG_WRONG_SYNC,
+};
 use plain_terminal::terminal::tables::{busy_place, illegal_place, BitPlace};
 use plain_terminal::terminal::words::Command;
-use plain_terminal::terminal::{check_area, trace_output, write_record, Settings};
+use plain_terminal::terminal::{check_area, trace_output, write_record, Record, Settings};
 
 use crate::helpers::{good, heard, numbered_words, record, Terminal, UNTOUCHED};
 use crate::trace::image;
@@ -66,6 +69,20 @@ fn four_words() {
     assert_eq!(terminal.ram[..4], [0x8000, 0x7A60, 0x0400, 0x0824]);
 }
 
+/// A transfer on bus B from terminal 2, subaddress 2, to terminal 3.
+#[test]
+fn three_words_from_another_terminal() {
+    let mut terminal = Terminal::new(rt(3), &[(0x0143, 0x0400)]);
+    let message = Record {
+        transmit_command: 0x1443,
+        flags: FLAG_BUS_B | FLAG_TRANSFER,
+        ..record(0x1863, &[0x0001, 0x0002, 0x0003])
+    };
+    assert_eq!(terminal.columns(&message), "A800 0400 0400 1800 0 0003");
+    assert_eq!(terminal.ram[0x0400..0x0404], [1, 2, 3, 0]);
+    assert_eq!(terminal.ram[..4], [0xA800, 0x7A60, 0x0400, 0x1863]);
+}
+
 #[test]
 fn mode_commands_are_refused() {
     let mut terminal = Terminal::new(rt(4), &[]);
@@ -110,7 +127,7 @@ fn illegal_bit_of_32_words() {
         word: 0x0386,
         bit: 0,
     };
-    assert_eq!(illegal_place(Command(0x2860)), expected);
+    assert_eq!(illegal_place(&Settings::TRACE, Command(0x2860)), expected);
 }
 
 /// All status bits of the settings together.
@@ -588,7 +605,8 @@ fn busy_places() {
         (0xF800, 0x0240, 0),
         (0xFFE0, 0x0243, 15),
     ] {
-        assert_eq!(busy_place(Command(command)), BitPlace { word, bit });
+        let place = busy_place(&Settings::TRACE, Command(command));
+        assert_eq!(place, BitPlace { word, bit });
     }
 }
 
@@ -645,6 +663,34 @@ fn table_of_faults() {
         terminal.columns(&heard(0x2864, 4, FLAG_BUS_B)),
         "A000 0400 0400 2800 0 0003"
     );
+}
+
+/// The rows of the table for transfers. The makers would have 9A00 without a
+/// status, since their bit 10 sums up fewer faults; rule 7 has it for any.
+#[test]
+fn table_of_faults_in_transfers() {
+    for (flags, count, block_status) in [
+        (0, 4, 0x8800),
+        (FLAG_NO_STATUS, 0, 0x9E00),
+        (FLAG_GAP, 0, 0x9C04),
+        (FLAG_SECOND, 0, 0x9C02),
+        (0, 2, 0x9C20),
+        (FLAG_INVALID_WORD, 2, 0x9C08),
+        (FLAG_WRONG_SYNC, 2, 0x9C10),
+    ] {
+        let mut terminal = Terminal::new(RT5, &[(0x0143, 0x0400)]);
+        let message = Record {
+            transmit_command: 0x1444,
+            ..heard(0x2864, count, FLAG_TRANSFER | flags)
+        };
+        let (answered, remembered) = match block_status {
+            0x8800 => ("2800 0 0003", 0x2800),
+            _ => ("none 0 0013", 0x2C00),
+        };
+        let expected = format!("{block_status:04X} 0400 0400 {answered}");
+        assert_eq!(terminal.columns(&message), expected);
+        assert_eq!(terminal.remembered.status, remembered);
+    }
 }
 
 /// Where one receive cell may lie beside a stack at 0000.

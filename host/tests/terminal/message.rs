@@ -111,7 +111,7 @@ fn p9_count_field_0_expects_32_words() {
 
 #[test]
 fn p10_illegal_bit() {
-    let place = illegal_place(Command(0x2864));
+    let place = illegal_place(&Settings::TRACE, Command(0x2864));
     let expected = BitPlace {
         word: 0x0386,
         bit: 4,
@@ -129,7 +129,7 @@ fn p10_illegal_bit() {
 
 #[test]
 fn p11_busy_bit() {
-    let place = busy_place(Command(0x2864));
+    let place = busy_place(&Settings::TRACE, Command(0x2864));
     let expected = BitPlace {
         word: 0x0244,
         bit: 3,
@@ -461,10 +461,10 @@ fn every_table_bit_belongs_to_one_command() {
     for address in [5, 31] {
         for rest in 0..0x0800 {
             let command = Command(address << 11 | rest);
-            let place = illegal_place(command);
+            let place = illegal_place(&Settings::TRACE, command);
             let index = (place.word - 0x0300) * 16 + usize::from(place.bit);
             assert!(!std::mem::replace(&mut illegal_met[index], true));
-            let place = busy_place(command);
+            let place = busy_place(&Settings::TRACE, command);
             busy_met[(place.word - 0x0240) * 16 + usize::from(place.bit)] = true;
         }
     }

@@ -2,7 +2,8 @@
 
 use plain_terminal::terminal::trace::planted_trace_output;
 use plain_terminal::terminal::{
-    carry_out_planted, trace_output, write_record, Answer, MessageRef, Planted, Record,
+    carry_out_planted, read_record_planted, trace_output, write_record, write_record_planted,
+    Answer, MessageRef, Planted, Record,
 };
 
 use crate::helpers::{good, heard, Terminal};
@@ -84,6 +85,79 @@ fn count_field_0_as_no_words() {
         run(planted, &mut terminal, &good(0x2864)).block_status,
         0x8000
     );
+}
+
+fn transfer(command: u16, count: u16, flags: u16) -> Record {
+    Record {
+        transmit_command: 0x1443,
+        ..heard(command, count, 8 | flags)
+    }
+}
+
+/// What a planted error makes of a record's value.
+fn value(planted: Planted, record: &Record) -> Answer {
+    let mut terminal = Terminal::with_circle(0x0400);
+    terminal.ram[0x0163] = 0x0500;
+    let (ram, reply) = (&mut terminal.ram, &mut terminal.reply);
+    let (settings, remembered) = (&terminal.settings, terminal.remembered);
+    let message = MessageRef::Value(record);
+    carry_out_planted(planted, ram, reply, settings, remembered, message).0
+}
+
+#[test]
+fn bits_of_transfers() {
+    let planted = Planted::CountBesideTransferFault;
+    assert_eq!(
+        value(planted, &transfer(0x2864, 0, 16)).block_status,
+        0x9E20
+    );
+    assert_eq!(value(planted, &transfer(0x2864, 3, 4)).block_status, 0x9C08);
+
+    let planted = Planted::TransferBitsExchanged;
+    assert_eq!(
+        value(planted, &transfer(0x2864, 0, 16)).block_status,
+        0x9C04
+    );
+    assert_eq!(
+        value(planted, &transfer(0x2864, 0, 32)).block_status,
+        0x9E00
+    );
+    assert_eq!(
+        value(planted, &transfer(0x2864, 0, 64)).block_status,
+        0x9C02
+    );
+
+    let mut terminal = Terminal::with_circle(0x0400);
+    let planted = Planted::TransmitCommandInDescriptor;
+    run(planted, &mut terminal, &transfer(0x2864, 4, 0));
+    run(planted, &mut terminal, &good(0x2864));
+    assert_eq!([terminal.ram[3], terminal.ram[7]], [0x1443, 0x2864]);
+    assert_eq!(terminal.remembered.command, 0x2864);
+}
+
+/// Each lets through what the others refuse, in the reader and the writer too.
+#[test]
+fn layouts_that_are_let_through() {
+    let unmarked = Record {
+        flags: 0,
+        ..transfer(0x2864, 4, 0)
+    };
+    let broken = [
+        (Planted::UnmarkedTransmitCommand, unmarked),
+        (Planted::TransferOnTransmit, transfer(0x2C64, 0, 0)),
+        (Planted::CountWithTransferFault, transfer(0x2864, 4, 16)),
+    ];
+    for planted in Planted::ERRORS {
+        for (let_through, record) in broken {
+            let number = if planted == let_through { 0 } else { 5 };
+            assert_eq!(value(planted, &record).number, number, "{}", planted.name());
+            let written = write_record_planted(planted, &record);
+            assert_eq!(written.err().unwrap_or(0), number);
+            if let Ok(bytes) = written {
+                assert_eq!(read_record_planted(planted, &bytes), Ok(record));
+            }
+        }
+    }
 }
 
 #[test]

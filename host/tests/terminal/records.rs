@@ -12,15 +12,12 @@ fn command_fields() {
     assert!(!command.is_transmit());
     assert_eq!(command.subaddress(), 3);
     assert_eq!(command.word_count(), 4);
-    assert!(!command.is_broadcast());
 
     let last = Command(0xFFFF);
     assert_eq!(last.address(), 31);
     assert!(last.is_transmit());
     assert_eq!(last.subaddress(), 31);
     assert_eq!(last.word_count(), 31);
-    assert!(last.is_broadcast());
-    assert!(!Command(0xF7FF).is_broadcast());
 }
 
 #[test]
@@ -55,6 +52,16 @@ fn bytes_of_a_record() {
     expected[16..20].copy_from_slice(&[0xAB, 0xCD, 0x01, 0x02]);
     assert_eq!(write_record(&record), Ok(expected));
     assert_eq!(read_record(&expected), Ok(record));
+
+    let transfer = Record {
+        transmit_command: 0x1443,
+        flags: 13,
+        ..record
+    };
+    expected[2..4].copy_from_slice(&[0x14, 0x43]);
+    expected[6] = 13;
+    assert_eq!(write_record(&transfer), Ok(expected));
+    assert_eq!(read_record(&expected), Ok(transfer));
 }
 
 #[test]
@@ -92,7 +99,8 @@ fn each_byte_of_the_layout() {
             bytes[place] = value;
             let allowed = match place {
                 0 | 1 | 4 | 5 => true,
-                6 => value <= 7,
+                // A transfer may have no words and any fault.
+                6 => value <= 7 || value <= 127 && value & 8 != 0,
                 7 => value <= 33,
                 _ => value == 0,
             };
@@ -136,8 +144,13 @@ fn values_that_break_the_layout_are_not_written() {
     };
     assert_eq!(broken(|_| ()), None);
     assert_eq!(broken(|r| r.flags = 7), None);
-    assert_eq!(broken(|r| r.flags = 8), Some(5));
+    assert_eq!(broken(|r| r.flags = 15), None);
+    assert_eq!(broken(|r| r.flags = 16), Some(5));
+    assert_eq!(broken(|r| r.flags = 24), Some(5));
+    assert_eq!(broken(|r| r.flags = 136), Some(5));
     assert_eq!(broken(|r| r.flags = 0x0100), Some(5));
+    assert_eq!(broken(|r| r.flags = 0x0108), Some(5));
+    assert_eq!(broken(|r| r.transmit_command = 1), Some(5));
     assert_eq!(broken(|r| r.count = 33), None);
     assert_eq!(broken(|r| r.count = 34), Some(5));
     assert_eq!(broken(|r| r.count = 0x0104), Some(5));

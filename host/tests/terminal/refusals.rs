@@ -164,8 +164,12 @@ fn record_layout() {
         (2, 1, 5),
         (3, 1, 5),
         (6, 7, 0),
-        (6, 8, 5),
+        (6, 8, 0),
+        (6, 15, 0),
+        (6, 16, 5),
+        (6, 24, 5),
         (6, 0x80, 5),
+        (6, 0x88, 5),
         (7, 3, 5),
         (7, 33, 0),
         (7, 34, 5),
@@ -194,7 +198,11 @@ fn record_values_are_tested_for_their_layout_too() {
         answer.number
     };
     assert_eq!(run(|_| ()), 0);
-    assert_eq!(run(|r| r.flags = 8), 5);
+    assert_eq!(run(|r| r.flags = 8), 0);
+    assert_eq!(run(|r| r.flags = 16), 5);
+    assert_eq!(run(|r| r.flags = 24), 5);
+    assert_eq!(run(|r| (r.flags, r.command) = (8, 0x2C64)), 5);
+    assert_eq!(run(|r| r.transmit_command = 0x1443), 5);
     assert_eq!(run(|r| r.flags = 0x0100), 5);
     assert_eq!(run(|r| r.count = 33), 0);
     assert_eq!(run(|r| r.count = 34), 5);
@@ -300,7 +308,8 @@ fn no_other_case_is_refused() {
         let record = random.record(terminal.settings.address);
         let address = record.command >> 11;
         let sub = record.command >> 5 & 31;
-        let expected = if address != terminal.settings.address && address != 31 {
+        let broadcast = terminal.settings.broadcast && address == 31;
+        let expected = if address != terminal.settings.address && !broadcast {
             6
         } else if sub == 0 || sub == 31 {
             7

@@ -18,7 +18,7 @@ impl Accepted<'_> {
     }
 
     fn is_broadcast(&self) -> bool {
-        self.record.command >> 11 == 31
+        self.before.settings.broadcast && self.record.command >> 11 == 31
     }
 
     fn subaddress(&self) -> usize {
@@ -59,7 +59,7 @@ impl Accepted<'_> {
 
     fn is_valid(&self) -> bool {
         let expected = if self.is_transmit() { 0 } else { self.asked() };
-        let flagged = self.record.flags & 6 != 0;
+        let flagged = self.record.flags & (2 + 4 + 16 + 32 + 64) != 0;
         let count_fault = usize::from(self.record.count) != expected && !flagged;
         let contents_fault = self.is_transmit() && self.is_broadcast();
         !flagged && !count_fault && !contents_fault

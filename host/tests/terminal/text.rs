@@ -123,6 +123,62 @@ fn message_lines() {
 }
 
 #[test]
+fn transfer_lines() {
+    for (line, transmit_command, flags, count) in [
+        ("message 2862 from 1442 words A000 A001", 0x1442, 8, 2),
+        ("message 2862 words A000 A001 from 0", 0, 8, 2),
+        (
+            "message 2862 flags invalid words A000 from 1442",
+            0x1442,
+            8 + 4,
+            1,
+        ),
+        (
+            "message 2862 bus B from 1442 flags nostatus",
+            0x1442,
+            1 + 8 + 16,
+            0,
+        ),
+        (
+            "message 2862 from 1442 flags gap count 0",
+            0x1442,
+            8 + 32,
+            0,
+        ),
+        ("message 2862 from 1442 flags second", 0x1442, 8 + 64, 0),
+        (
+            "message 2862 flags second gap nostatus invalid sync from 1442 bus B",
+            0x1442,
+            127,
+            0,
+        ),
+    ] {
+        let expected = Record {
+            transmit_command,
+            tag: 0,
+            ..heard(0x2862, count, flags)
+        };
+        let bytes = write_record(&expected).unwrap();
+        assert_eq!(packed_record(line), bytes, "{line}");
+    }
+}
+
+#[test]
+fn unpacked_transfers() {
+    for line in [
+        "message 2864 from 1443 bus A tag 7A60 words A000\n",
+        "message 2864 from 0000 bus B tag 0001 flags sync invalid nostatus gap second\n",
+        "message F864 from FFFF bus A tag 0000 flags second\n",
+    ] {
+        assert_eq!(unpack(&packed(line)), line);
+    }
+    // Without flag 8, bytes 2-3 are no transfer: the record is damaged.
+    let bytes = packed_record("message 2864 from 1443");
+    let damaged = [&bytes[..6], &[0], &bytes[7..]].concat();
+    assert!(unpack(&[&[0; 8192], &damaged[..]].concat()).starts_with("raw 2864 1443 "));
+}
+
+#[test]
 fn unpacked_messages() {
     let unpacked = |record: &Record| {
         let bytes = write_record(record).unwrap();
@@ -191,6 +247,17 @@ fn settings_and_owners() {
     assert_eq!(owners, [(3, "Bert"), (19, "Anna Karlsson")]);
     assert_eq!(read.owners.of(4), None);
 
+    let off =
+        read_text(b"settings address 31 area A stack 256 broadcast off busy-always\n").unwrap();
+    let expected = Settings {
+        address: 31,
+        overwrite_invalid: false,
+        busy_always: true,
+        broadcast: false,
+        ..Settings::TRACE
+    };
+    assert_eq!(off.settings, Some(expected));
+
     let without = read_text(b"ram 0 1234\n").unwrap();
     assert_eq!(without.settings, None);
     assert!(without.owners.is_empty());
@@ -226,6 +293,14 @@ fn errors_in_settings_and_owners() {
             (
                 "settings address 5 area A stack 256 loud",
                 "found \"loud\", expected one of overwrite-invalid, ",
+            ),
+            (
+                "settings address 31 area A stack 256 broadcast",
+                "found the end of the line, expected off",
+            ),
+            (
+                "settings address 31 area A stack 256 broadcast on",
+                "found \"on\", expected off",
             ),
             ("owner", "found the end of the line, expected a subaddress"),
             ("owner 31 Bert", "found \"31\", expected a subaddress"),
@@ -293,9 +368,10 @@ fn errors_in_ram_lines() {
 
 #[test]
 fn errors_in_message_lines() {
-    const PARTS: &str = "found \"1111\", expected bus, tag, flags, count or words";
+    const PARTS: &str = "found \"1111\", expected from, bus, tag, flags, count or words";
     const TWICE: &str = "found tag a second time, expected each part once";
-    const NO_FLAG: &str = "found flags without a name, expected sync or invalid";
+    const NO_FLAG: &str =
+        "found flags without a name, expected sync, invalid, nostatus, gap or second";
     const COUNT: &str = "found \"34\", expected a count, decimal, 0 to 33";
     assert_errors(
         1,
@@ -319,13 +395,48 @@ fn errors_in_message_lines() {
             ("message 2864 flags", NO_FLAG),
             (
                 "message 2864 flags snyc",
-                "found \"snyc\", expected sync or invalid",
+                "found \"snyc\", expected sync, invalid, nostatus, gap or second",
             ),
             ("message 2864 count 34", COUNT),
             ("message 2864 count -1", "found \"-1\", expected a count"),
             (
                 "message 2864 count",
                 "found the end of the line, expected a count",
+            ),
+        ],
+    );
+}
+
+/// A transfer that no good record tells, and what to write instead.
+#[test]
+fn errors_in_transfers() {
+    const TRANSMIT: &str = "found from with the transmit command 2C62, expected a receive command \
+        before from, since this terminal receives in a transfer";
+    const WITHOUT: &str = "found flags nostatus second without from, expected from and the other \
+        terminal's command, since only transfers have these flags";
+    const COUNT: &str = "found count 2 with flags gap, expected no words, since none is heard \
+        after these; or a raw line for a damaged record";
+    assert_errors(
+        1,
+        &[
+            (
+                "message 2864 from",
+                "found the end of the line, expected the other terminal's command word of 1",
+            ),
+            (
+                "message 2864 from words 1",
+                "found \"words\", expected the other",
+            ),
+            (
+                "message 2864 from 1443 from 1443",
+                "found from a second time, expected each part once",
+            ),
+            ("message 2C62 from 1443", TRANSMIT),
+            ("message 2864 flags second nostatus", WITHOUT),
+            ("message 2864 from 1443 flags gap words 1 2", COUNT),
+            (
+                "message 2864 from 1443 count 1 flags second sync",
+                "found count 1 with flags second, expected no words",
             ),
         ],
     );

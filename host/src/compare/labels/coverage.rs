@@ -30,6 +30,7 @@ classes! {
     Stack2048 "stack of 2048 words",
     Separate "broadcast cells of their own",
     Together "broadcast with receive",
+    SeparateOff "broadcast off, though separate-broadcast is on",
     Receives "pairs of receive cells",
     Transmits "pairs of transmit cells",
     Broadcasts "pairs of broadcast cells",
@@ -98,7 +99,7 @@ impl Coverage {
             let class = match cell {
                 96.. => Cell9None,
                 _ if matches!(cell % 32, 0 | 31) => Cell9Mode,
-                64.. if !settings.separate_broadcast => Cell9Broadcast,
+                64.. if !settings.has_broadcast_cells() => Cell9Broadcast,
                 _ => Cell9Unsound,
             };
             self.note(class, true);
@@ -130,8 +131,12 @@ impl Coverage {
         self.note(Stack512, settings.stack_size == 512);
         self.note(Stack1024, settings.stack_size == 1024);
         self.note(Stack2048, settings.stack_size == 2048);
-        self.note(Separate, settings.separate_broadcast);
-        self.note(Together, !settings.separate_broadcast);
+        self.note(Separate, settings.has_broadcast_cells());
+        self.note(Together, settings.broadcast && !settings.separate_broadcast);
+        self.note(
+            SeparateOff,
+            !settings.broadcast && settings.separate_broadcast,
+        );
     }
 
     fn take_in_area(&mut self, asked: &Asked) {

@@ -50,9 +50,10 @@ macro_rules! setting {
 }
 
 /// Errors by name: this package's labels, each wrong in one way.
-pub const ERRORS: [(&str, LabelSide); 6] = [
+pub const ERRORS: [(&str, LabelSide); 7] = [
     ("area-a-always", setting!(AREA, 0)),
     ("broadcast-always", setting!(SEPARATE, 1)),
+    ("broadcast-never-off", setting!(OFF, 0)),
     (
         "all-write",
         LabelSide {
@@ -111,6 +112,7 @@ pub const ERRORS: [(&str, LabelSide); 6] = [
 /// Places in the settings.
 const AREA: usize = 1;
 const SEPARATE: usize = 4;
+const OFF: usize = 11;
 
 fn with(settings: &[u16], place: usize, word: u16) -> Vec<u16> {
     let mut settings = settings.to_vec();

@@ -4,7 +4,7 @@
 use super::{Asked, Told};
 use crate::compare::classes;
 use crate::terminal::read_record;
-use crate::terminal::records::RECORD_BYTES;
+use crate::terminal::records::{RECORD_BYTES, TRANSFER_FAULTS};
 use crate::terminal::refusal;
 use crate::terminal::writes::Part;
 
@@ -17,6 +17,8 @@ classes! {
     Parts "traces in more than one part",
     Damaged "records that break the layout",
     Good "records that keep it",
+    Transfer "transfers",
+    TransferFault "transfers without status, with a wrong gap or a bad second command",
     AsInImage "words as in the image",
     Data "words of data",
     Pointer "lookup pointers",
@@ -49,9 +51,13 @@ impl Coverage {
         self.note(Tail, !records.remainder().is_empty());
         self.note(Parts, records.len() > asked.part_records);
         for record in records {
-            let damaged = read_record(record).is_err();
-            self.note(Damaged, damaged);
-            self.note(Good, !damaged);
+            let read = read_record(record);
+            self.note(Damaged, read.is_err());
+            self.note(Good, read.is_ok());
+            if let Ok(record) = read {
+                self.note(Transfer, record.is_transfer());
+                self.note(TransferFault, record.has_flag(TRANSFER_FAULTS));
+            }
         }
         for answer in &told.every {
             self.take_in_answer(answer);

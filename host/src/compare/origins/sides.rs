@@ -1,8 +1,8 @@
 //! The sides of a comparison of who wrote a word, and errors to be planted.
 
 use super::{addresses, Asked, Told};
-use crate::terminal::read_record;
 use crate::terminal::records::RECORD_BYTES;
+use crate::terminal::{read_record, Record};
 
 pub type Side = fn(&Asked) -> Told;
 
@@ -60,7 +60,7 @@ fn refused(asked: &Asked, number: u16, singles: Vec<super::Answer>) -> Told {
 }
 
 /// Errors by name: this package's answers, each wrong in one way.
-pub const ERRORS: [(&str, Side); 3] = [
+pub const ERRORS: [(&str, Side); 4] = [
     ("last-unheard", |asked| {
         let records = asked.records.len() / RECORD_BYTES;
         plain(&asked.first(records.saturating_sub(1)))
@@ -71,6 +71,17 @@ pub const ERRORS: [(&str, Side); 3] = [
         let kept = records.filter(|record| read_record(record).is_ok());
         good.records = kept.flatten().copied().collect();
         plain(&good)
+    }),
+    ("transfers-unheard", |asked| {
+        let mut deaf = asked.clone();
+        for record in deaf.records.chunks_exact_mut(RECORD_BYTES) {
+            let is_transfer = |record: Record| record.is_transfer();
+            if read_record(record).map_or(false, is_transfer) {
+                // Refused, and so counted all the same.
+                record.fill(0xFF);
+            }
+        }
+        plain(&deaf)
     }),
     ("cells-without-kind", |asked| {
         let mut told = plain(asked);

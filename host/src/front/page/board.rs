@@ -12,7 +12,7 @@ use crate::front::say;
 use crate::front::source::Source;
 use crate::terminal::cells::Kind;
 use crate::terminal::label::{AreaLabel, Sharer};
-use crate::terminal::{Answer, Settings};
+use crate::terminal::{Answer, Record, Settings};
 use crate::text::Owners;
 
 /// Cells are numbered below this.
@@ -115,10 +115,10 @@ impl Board {
         });
     }
 
-    /// The command of a refused record; none where its layout is broken.
-    pub fn command_of(&self, refused: &Refused) -> Option<u16> {
+    /// The value of a refused record; none where its layout is broken.
+    pub fn record_of(&self, refused: &Refused) -> Option<Record> {
         let (number, record) = engine::read_record(&refused.bytes);
-        (number == 0).then(|| record.command)
+        (number == 0).then_some(record)
     }
 
     /// Why a record was refused. No message makes anything sound or unsound,
@@ -166,7 +166,7 @@ impl Board {
 
     /// The cells of a subaddress.
     pub fn cells_of(&self, subaddress: u16) -> Vec<u16> {
-        let separate = self.settings().separate_broadcast;
+        let separate = self.settings().has_broadcast_cells();
         let kinds = KINDS.into_iter();
         kinds
             .filter(|&kind| kind != Kind::Broadcast || separate)

@@ -44,9 +44,10 @@ fn write_message(
 ) -> io::Result<()> {
     write!(
         out,
-        "record {}, tag <code>{:04X}</code>, {}; {}",
+        "record {}, tag <code>{:04X}</code>{}, {}; {}",
         message.record,
         message.facts.tag,
+        say::transfer(message.facts.transmit_command),
         html::went(message.facts.block_status),
         whereabouts(board, cell, message)
     )

@@ -14,7 +14,12 @@ pub fn write_header(out: &mut dyn Write, title: &str, board: &Board) -> io::Resu
     let records = board.records();
     let accepted = records - board.refused_in_all;
     let area = if settings.area_b { 'B' } else { 'A' };
-    let terminal = format!("Terminal {}, area {area}", settings.address);
+    let off = if settings.broadcast {
+        ""
+    } else {
+        ", broadcast off"
+    };
+    let terminal = format!("Terminal {}, area {area}{off}", settings.address);
     writeln!(out, "<header>\n<h1>{title}</h1>")?;
     write!(out, "<p>{terminal}, after {} ", count(records, "message"))?;
     write!(
@@ -35,7 +40,7 @@ pub fn write_header(out: &mut dyn Write, title: &str, board: &Board) -> io::Resu
         )?;
     }
     if let Some(number) = board.refused_area() {
-        let mut why = say::refusal(number).to_string();
+        let mut why = say::refusal(number, settings).to_string();
         if number == 8 {
             why += &format!(": {}", stack_faults(board.ram(), settings).join(" and "));
         }
@@ -141,7 +146,7 @@ pub fn write_area(out: &mut dyn Write, board: &Board) -> io::Result<()> {
             writeln!(out, "<p class=\"unsound\">Unsound: {cells}.</p>")?;
         }
         number => {
-            let why = escape(say::refusal(number));
+            let why = escape(say::refusal(number, board.settings()));
             writeln!(
                 out,
                 "<p class=\"unsound\">Refused with {number}: {why}.</p>"

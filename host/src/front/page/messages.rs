@@ -4,14 +4,15 @@ use std::io::{self, Write};
 
 use super::board::{Board, REFUSED_SHOWN};
 use super::html::{self, escape};
+use crate::front::history::entry_before;
 use crate::front::names::{addresses, count};
 use crate::front::say;
+use crate::terminal::cells::DESCRIPTOR_WORDS;
 use crate::terminal::described::StackDescription;
 use crate::terminal::writes::Part;
 
 /// How many entries are told.
 const SHOWN: usize = 16;
-const ENTRY_WORDS: usize = 4;
 
 /// The last entries of the stack that this trace made, oldest first.
 pub fn write_stack(out: &mut dyn Write, board: &Board) -> io::Result<()> {
@@ -43,11 +44,8 @@ fn last_entries(board: &Board) -> Vec<(u64, usize)> {
     }
     let StackDescription { pointer, block, .. } = board.history.replay.stack();
     let mut place = usize::from(pointer);
-    while entries.len() < SHOWN.min(block.len() / ENTRY_WORDS) {
-        if place == block.start {
-            place = block.end;
-        }
-        place -= ENTRY_WORDS;
+    while entries.len() < SHOWN.min(block.len() / DESCRIPTOR_WORDS) {
+        place = entry_before(&block, place);
         match board.history.replay.origin(place) {
             Some(origin) if origin.part == Part::Stack(1) => entries.push((origin.record, place)),
             _ => break,
@@ -58,15 +56,16 @@ fn last_entries(board: &Board) -> Vec<(u64, usize)> {
 }
 
 fn write_entry(out: &mut dyn Write, board: &Board, record: u64, place: usize) -> io::Result<()> {
-    let words = &board.ram()[place..place + ENTRY_WORDS];
+    let words = &board.ram()[place..place + DESCRIPTOR_WORDS];
     let [block_status, tag, pointer, command] = [words[0], words[1], words[2], words[3]];
     let message = say::command(command, board.settings(), &board.owners);
-    let entry = addresses(&(place..place + ENTRY_WORDS));
+    let transfer = say::transfer(board.history.facts(place).transmit_command);
+    let entry = addresses(&(place..place + DESCRIPTOR_WORDS));
     writeln!(
         out,
         "<tr><td>{record}</td><td><code>{tag:04X}</code></td><td>{}</td><td>{}</td>\
          <td><code>{pointer:04X}</code></td><td><code>{entry}</code></td></tr>",
-        escape(&message),
+        escape(&(message + &transfer)),
         html::went(block_status)
     )
 }
@@ -91,8 +90,11 @@ pub fn write_refused(out: &mut dyn Write, board: &Board) -> io::Result<()> {
          <th>Why</th></tr></thead>\n<tbody>"
     )?;
     for refused in &board.refused {
-        let message = match board.command_of(refused) {
-            Some(command) => say::command(command, board.settings(), &board.owners),
+        let message = match board.record_of(refused) {
+            Some(record) => {
+                say::command(record.command, board.settings(), &board.owners)
+                    + &say::transfer(say::transmit_command(&record))
+            }
             None => "not readable".to_string(),
         };
         writeln!(

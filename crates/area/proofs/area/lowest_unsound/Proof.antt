@@ -35,21 +35,27 @@ returns-2 c =
 
 lowest-of-kind-requires-3 : tie.Need-lowest-of-kind-requires-3
 unfolding isRead cellNumber
-lowest-of-kind-requires-3 c κs =
-    (rw (c .if3 .taken), after-transmit _ _ _ ∙ sym (c .before .before .lowest-of-kind2 .ensures) ∙ c .before .if2 .left)
+lowest-of-kind-requires-3 c κs = (
+  rw (← (c .before .has-broadcast-cells .ensures), c .if3 .taken),
+  after-transmit _ _ _ ∙ sym (c .before .before .before .lowest-of-kind2 .ensures) ∙ c .before .before .if2 .left,
+)
+
+has-broadcast-cells-requires : tie.Need-has-broadcast-cells-requires
+has-broadcast-cells-requires c κs = search needs
 
 returns-3 : tie.Need-returns-3
 unfolding lowestUnsound cellNumber
 returns-3 c =
     let e = c .lowest-of-kind3 .ensures ∙ sym (after-broadcast _ _ _) in
-    rw (c .before .before .before .before .before .before .stack-window .ensures) at e
+    rw (c .before .before .before .before .before .before .before .stack-window .ensures) at e
 
 returns-4 : tie.Need-returns-4
 unfolding lowestUnsound cellNumber
 returns-4 c =
-    let none = sym (c .before .before .lowest-of-kind2 .ensures) ∙ c .before .if2 .left in
-    let e = sym (no-broadcast _ _ _ (c .if3 .left) ∙ none) in
-    rw (c .before .before .before .before .before .stack-window .ensures) at e
+    let none = sym (c .before .before .before .lowest-of-kind2 .ensures) ∙ c .before .before .if2 .left in
+    let off = sym (c .before .has-broadcast-cells .ensures) ∙ c .if3 .left in
+    let e = sym (no-broadcast _ _ _ off ∙ none) in
+    rw (c .before .before .before .before .before .before .stack-window .ensures) at e
 
 pub lowest-unsound-spec : {M : Type 1} → statement M
 lowest-unsound-spec =
@@ -60,6 +66,7 @@ lowest-unsound-spec =
     returns
     lowest-of-kind-requires-2
     returns-2
+    has-broadcast-cells-requires
     lowest-of-kind-requires-3
     returns-3
     returns-4)

@@ -5,7 +5,7 @@ use Rattle.carry.proofs.carry.carry_out.Statement.{statement}
 use Rattle.carry.proofs.carry.carry_out.Tie as tie
 
 slice-aggregate-store-words : tie.Need-slice-aggregate-store-words
-slice-aggregate-store-words c = search needs
+slice-aggregate-store-words c = search (needs, c .before .before .before .before .before .before .before .good .1 .1 .1)
 
 store-words-requires : tie.Need-store-words-requires
 store-words-requires c κs = search needs

@@ -40,22 +40,26 @@ area-from-requires c κs = search needs
 word-at-requires-11 : tie.Need-word-at-requires-11
 word-at-requires-11 c κs = search needs
 
+word-at-requires-12 : tie.Need-word-at-requires-12
+word-at-requires-12 c κs = search needs
+
 returns : tie.Need-returns
 unfolding settingsFrom
 returns c =
     rw (
-      c .word-at11 .ensures,
+      c .word-at12 .ensures,
       c .before .area-from .ensures,
-      c .before .before .word-at10 .ensures,
-      c .before .before .before .word-at9 .ensures,
-      c .before .before .before .before .word-at8 .ensures,
-      c .before .before .before .before .before .word-at7 .ensures,
-      c .before .before .before .before .before .before .word-at6 .ensures,
-      c .before .before .before .before .before .before .before .word-at5 .ensures,
-      c .before .before .before .before .before .before .before .before .word-at4 .ensures,
-      c .before .before .before .before .before .before .before .before .before .word-at3 .ensures,
-      c .before .before .before .before .before .before .before .before .before .before .word-at2 .ensures,
-      c .before .before .before .before .before .before .before .before .before .before .before .word-at .ensures,
+      c .before .before .word-at11 .ensures,
+      c .before .before .before .word-at10 .ensures,
+      c .before .before .before .before .word-at9 .ensures,
+      c .before .before .before .before .before .word-at8 .ensures,
+      c .before .before .before .before .before .before .word-at7 .ensures,
+      c .before .before .before .before .before .before .before .word-at6 .ensures,
+      c .before .before .before .before .before .before .before .before .word-at5 .ensures,
+      c .before .before .before .before .before .before .before .before .before .word-at4 .ensures,
+      c .before .before .before .before .before .before .before .before .before .before .word-at3 .ensures,
+      c .before .before .before .before .before .before .before .before .before .before .before .word-at2 .ensures,
+      c .before .before .before .before .before .before .before .before .before .before .before .before .word-at .ensures,
     )
 
 pub settings-from-spec : {M : Type 1} → statement M
@@ -72,6 +76,7 @@ settings-from-spec =
     word-at-requires-8
     word-at-requires-9
     word-at-requires-10
-    area-from-requires
     word-at-requires-11
+    area-from-requires
+    word-at-requires-12
     returns)

@@ -1,71 +1,66 @@
--- `serve` meets its contract: accepted where the number is 0, and else nothing is touched.
+-- `serve` meets its contract: what was performed is told.
 use borrow.Author.Needs.{needs}
-use lib.ListN.{length}
-use borrow.Author.Tests.{eq-eqb, ne-eqb}
-use Rattle.message.specs.Answer.{answerFor}
-use Rattle.message.specs.Message.{stateFor}
-use Rattle.message.proofs.InTurn.{ram-passed}
+use Rattle.message.proofs.Performing.{serves-refused, serves-done}
 use Rattle.message.proofs.serve.serve.Statement.{statement}
 use Rattle.message.proofs.serve.serve.Tie as tie
 
-ram-refused-requires : tie.Need-ram-refused-requires
-ram-refused-requires c κs = search needs
+perform-requires : tie.Need-perform-requires
+perform-requires c κs = search needs
+
+enum-known-performed : tie.Need-enum-known-performed
+enum-known-performed c = search needs
 
 refuse-requires : tie.Need-refuse-requires
 refuse-requires c κs = search needs
 
-returns : tie.Need-returns
-returns c =
-    let k = c .before .before .before .before .before in
-    let a = k .args in
-    absurd
-    (ram-passed (length (a .ram .now)) (length (a .reply .now)) (a .s) _ (k .pre) (c .before .before .ram-refused .ensures)
-    (c .before .if1 .taken))
-
-late-refusal-requires : tie.Need-late-refusal-requires
-late-refusal-requires c κs = search needs
-
-refuse-requires-2 : tie.Need-refuse-requires-2
-refuse-requires-2 c κs = search needs
-
-same-length : tie.Need-same-length
-same-length c = search needs
-
-returns-2 : tie.Need-returns-2
-unfolding answerFor stateFor
-returns-2 c = let e = c .before .before .late-refusal .ensures in
-    let n = ne-eqb _ _ (c .before .if2 .taken) in
-    (rw (c .refuse2 .ensures, ← e, n), rw (c .refuse2 .ensures, ← e, n))
+enum-known-performed-2 : tie.Need-enum-known-performed-2
+enum-known-performed-2 c = search needs
 
 accept-requires : tie.Need-accept-requires
 accept-requires c κs = search needs
 
+same-length : tie.Need-same-length
+same-length c = search needs
+
 same-length-2 : tie.Need-same-length-2
 same-length-2 c = search needs
+
+returns : tie.Need-returns
+returns c = let told = c .before .before in
+    let k = told .before .before .before .before .before .before in
+    let begun = k .before .before .before .before .before in
+    let a = begun .args in
+    serves-refused (a .s) (a .before) (a .v) (a .ram .now) (a .reply .now) (begun .pre) _ _ _ (k .perform .ensures) _ _
+    (told .performed .given .1)
+    (c .refuse .ensures)
 
 same-length-3 : tie.Need-same-length-3
 same-length-3 c = search needs
 
-returns-3 : tie.Need-returns-3
-unfolding answerFor stateFor
-returns-3 c = let k = c .before .before .before .before .accept .ensures in
-    let t = c .before .before .before .before .before .before .before in
-    let e = t .before .late-refusal .ensures in
-    let n = eq-eqb _ _ (t .if2 .left) in
-    (rw (← e, n) (k .0), rw (← e, n) (k .1))
+same-length-4 : tie.Need-same-length-4
+same-length-4 c = search needs
+
+returns-2 : tie.Need-returns-2
+returns-2 c = let told = c .before .before in
+    let k = told .before .before .before .before .before .before in
+    let begun = k .before .before .before .before .before in
+    let a = begun .args in
+    serves-done (a .s) (a .before) (a .v) (a .ram .now) (a .reply .now) (begun .pre) _ _ _ (k .perform .ensures) _ _
+    (told .performed2 .given .1)
+    (c .accept .ensures)
 
 pub serve-spec : {M : Type 1} → statement M
 serve-spec =
     tie.close
     (tie.spec
-    ram-refused-requires
+    perform-requires
+    enum-known-performed
     refuse-requires
-    returns
-    late-refusal-requires
-    refuse-requires-2
-    same-length
-    returns-2
+    enum-known-performed-2
     accept-requires
+    same-length
     same-length-2
+    returns
     same-length-3
-    returns-3)
+    same-length-4
+    returns-2)

@@ -21,7 +21,8 @@ unfolding lastLines
 returns c =
     let first = c .before .before .before .before .before .before in
     let given = first .before .before .before .args in
-    put-first (put-then (first .put-tail .ensures) (c .before .before .put-end .ensures))
+    put-first {xs = lastLines (given .tail) (given .number)}
+    (put-then (first .put-tail .ensures) (c .before .before .put-end .ensures))
     (omega (arith, last-most (given .tail) (given .number)))
 
 pub put-last-lines-spec : {M : Type 1} → statement M

@@ -28,7 +28,7 @@ returns c =
     let p = c .before .before .put-line .ensures in
     let n = c .before .before .before .before .wrapping-add-u64 .ensures in
     let m = c .before .before .before .before .before .before .before .before .before .before .before .message-from-bytes .ensures in
-    record { state = m .1; line = rw (← n, ← (m .0)) p; number = n }
+    record { state = m .1; line = rw (n, m .0) at p; number = n }
 
 pub walk-one-spec : {M : Type 1} → statement M
 walk-one-spec =

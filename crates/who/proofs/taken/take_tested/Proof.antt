@@ -1,6 +1,6 @@
--- `take_tested` meets its contract: refused by its form or by its command, or carried out by its plan.
+-- `take_tested` meets its contract: refused by its form, or as it was performed.
 use borrow.Author.Needs.{needs}
-use Rattle.who.proofs.Taking.{not-read, not-served, served}
+use Rattle.who.proofs.Taking.{not-read, not-performed, is-performed}
 use Rattle.who.proofs.taken.take_tested.Statement.{statement}
 use Rattle.who.proofs.taken.take_tested.Tie as tie
 
@@ -12,42 +12,46 @@ returns c = let begun = c .before .before in
     let a = begun .before .before .before in
     not-read (a .args .s) _ (a .args .before) _ (a .pre) _ (begun .read .ensures) (c .if1 .taken)
 
-late-refusal-requires : tie.Need-late-refusal-requires
-late-refusal-requires c κs = search needs
+slice-aggregate-perform : tie.Need-slice-aggregate-perform
+slice-aggregate-perform c = search needs
+
+perform-requires : tie.Need-perform-requires
+perform-requires c κs = search needs
+
+enum-told : tie.Need-enum-told
+enum-told c = search needs
+
+enum-known-performed : tie.Need-enum-known-performed
+enum-known-performed c = search needs
 
 same-length : tie.Need-same-length
 same-length c = search needs
 
 returns-2 : tie.Need-returns-2
-returns-2 c = let refused = c .before in
-    let chosen = refused .before .before .before in
+returns-2 c = let k = c .before .before .before .before .before in
+    let chosen = k .before .before .before .before in
     let begun = chosen .before .before in
     let a = begun .before .before .before in
-    not-served (a .args .s) _ (a .args .before) _ (a .pre) _ (begun .read .ensures) (chosen .if1 .left) _
-    (refused .late-refusal .ensures)
-    (c .if2 .taken)
-
-plan-of-requires : tie.Need-plan-of-requires
-plan-of-requires c κs = search needs
-
-carry-out-requires : tie.Need-carry-out-requires
-carry-out-requires c κs = search needs
+    not-performed (a .args .s) _ (a .args .before) _ (a .pre) _ (begun .read .ensures) (chosen .if1 .left) _ _
+    (k .perform .ensures .0)
+    (k .perform .ensures .1 .0)
+    _
+    (c .enum-told .given .1)
 
 same-length-2 : tie.Need-same-length-2
 same-length-2 c = search needs
 
 returns-3 : tie.Need-returns-3
-returns-3 c = let carried = c .before .before .before in
-    let planned = carried .before .before in
-    let accepted = planned .before .before in
-    let chosen = accepted .before .before .before .before in
+returns-3 c = let told = c .before .before in
+    let k = told .before .before .before .before .before in
+    let chosen = k .before .before .before .before in
     let begun = chosen .before .before in
     let a = begun .before .before .before in
-    served (a .args .s) _ (a .args .before) _ (a .pre) _ (begun .read .ensures) (chosen .if1 .left) _ _ _
-    (accepted .before .late-refusal .ensures)
-    (accepted .if2 .left)
-    (planned .plan-of .ensures)
-    (carried .carry-out .ensures)
+    is-performed (a .args .s) _ (a .args .before) _ (a .pre) _ (begun .read .ensures) (chosen .if1 .left) _ _
+    (k .perform .ensures .0)
+    (k .perform .ensures .1 .0)
+    _
+    (told .performed .given .1)
 
 pub take-tested-spec : {M : Type 1} → statement M
 take-tested-spec =
@@ -55,10 +59,11 @@ take-tested-spec =
     (tie.spec
     read-requires
     returns
-    late-refusal-requires
+    slice-aggregate-perform
+    perform-requires
+    enum-told
+    enum-known-performed
     same-length
     returns-2
-    plan-of-requires
-    carry-out-requires
     same-length-2
     returns-3)

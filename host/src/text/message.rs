@@ -1,0 +1,144 @@
+//! A message line, to the bytes of its record.
+
+use super::tokens::{mismatch, shown, Mismatch, Tokens};
+use crate::terminal::records::{
+    Record, FLAG_BUS_B, FLAG_GAP, FLAG_INVALID_WORD, FLAG_NO_STATUS, FLAG_SECOND, FLAG_TRANSFER,
+    FLAG_WRONG_SYNC, RECORD_BYTES, RECORD_WORDS, TOO_MANY, TRANSFER_FAULTS,
+};
+use crate::terminal::words::Command;
+use crate::terminal::write_record;
+
+/// The flags with their names, in the order in which they are written.
+const FLAG_NAMES: [(u16, &str); 5] = [
+    (FLAG_WRONG_SYNC, "sync"),
+    (FLAG_INVALID_WORD, "invalid"),
+    (FLAG_NO_STATUS, "nostatus"),
+    (FLAG_GAP, "gap"),
+    (FLAG_SECOND, "second"),
+];
+
+const PARTS: [&str; 6] = ["from", "bus", "tag", "flags", "count", "words"];
+
+/// What follows `message`: the command and then the parts in any order.
+pub fn read_message(tokens: &mut Tokens) -> Result<[u8; RECORD_BYTES], Mismatch> {
+    let record = read_parts(tokens)?;
+    check_transfer(&record)?;
+    write_record(&record).or_else(|_| {
+        mismatch(
+            format!("other words than 0000 after the first {}", record.count),
+            "a larger count, or a raw line for a damaged record",
+        )
+    })
+}
+
+fn read_parts(tokens: &mut Tokens) -> Result<Record, Mismatch> {
+    let mut record = Record {
+        command: tokens.hex_word("a command word")?,
+        ..Record::default()
+    };
+    let mut count = None;
+    let mut words_written = 0;
+    let mut parts_met = Vec::new();
+    while let Some(part) = tokens.next() {
+        if parts_met.contains(&part) {
+            return mismatch(format!("{part} a second time"), "each part once");
+        }
+        parts_met.push(part);
+        match part {
+            "from" => {
+                record.flags |= FLAG_TRANSFER;
+                record.transmit_command = tokens.hex_word("the other terminal's command word")?;
+            }
+            "bus" => record.flags |= read_bus(tokens)?,
+            "tag" => record.tag = tokens.hex_word("a time tag")?,
+            "flags" => record.flags |= read_flags(tokens)?,
+            "count" => count = Some(tokens.decimal("a count", TOO_MANY.into())?),
+            "words" => words_written = read_words(tokens, &mut record.words)?,
+            other => return mismatch(shown(Some(other)), one_of(&PARTS)),
+        }
+    }
+    record.count = count.unwrap_or(words_written) as u16;
+    Ok(record)
+}
+
+/// What a transfer and its faults ask of the other parts.
+fn check_transfer(record: &Record) -> Result<(), Mismatch> {
+    let faults = flag_names(record.flags & TRANSFER_FAULTS).join(" ");
+    if record.is_transfer() && Command(record.command).is_transmit() {
+        return mismatch(
+            format!("from with the transmit command {:04X}", record.command),
+            "a receive command before from, since this terminal receives in a transfer",
+        );
+    }
+    if !record.is_transfer() && !faults.is_empty() {
+        return mismatch(
+            format!("flags {faults} without from"),
+            "from and the other terminal's command, since only transfers have these flags",
+        );
+    }
+    if !faults.is_empty() && record.count > 0 {
+        return mismatch(
+            format!("count {} with flags {faults}", record.count),
+            "no words, since none is heard after these; or a raw line for a damaged record",
+        );
+    }
+    Ok(())
+}
+
+fn read_bus(tokens: &mut Tokens) -> Result<u16, Mismatch> {
+    match tokens.next() {
+        Some("A") => Ok(0),
+        Some("B") => Ok(FLAG_BUS_B),
+        other => mismatch(shown(other), "bus A or B"),
+    }
+}
+
+/// The names of those flags that are set and have one.
+pub fn flag_names(flags: u16) -> Vec<&'static str> {
+    let set = FLAG_NAMES.iter().filter(|(flag, _)| flags & flag != 0);
+    set.map(|(_, name)| *name).collect()
+}
+
+/// One or more of the fault names.
+fn read_flags(tokens: &mut Tokens) -> Result<u16, Mismatch> {
+    let names = FLAG_NAMES.map(|(_, name)| name);
+    let mut flags = 0;
+    while !tokens.at_end_or(&PARTS) {
+        let name = tokens.next();
+        match FLAG_NAMES.iter().find(|(_, known)| Some(*known) == name) {
+            Some((flag, _)) => flags |= flag,
+            None => return mismatch(shown(name), one_of(&names)),
+        }
+    }
+    if flags == 0 {
+        return mismatch("flags without a name", one_of(&names));
+    }
+    Ok(flags)
+}
+
+/// One to 32 data words; returns how many.
+fn read_words(tokens: &mut Tokens, words: &mut [u16; RECORD_WORDS]) -> Result<usize, Mismatch> {
+    let mut written = 0;
+    while !tokens.at_end_or(&PARTS) {
+        match words.get_mut(written) {
+            Some(word) => *word = tokens.hex_word("a data word")?,
+            None => {
+                return mismatch(
+                    "more than 32 words",
+                    "at most 32 (count 33 says more were heard)",
+                )
+            }
+        }
+        written += 1;
+    }
+    if written == 0 {
+        return mismatch("words without a word", "1 to 32 data words");
+    }
+    Ok(written)
+}
+
+/// Names as in `sync, invalid or gap`.
+fn one_of(names: &[&str]) -> String {
+    let (last, others) = names.split_last().expect("there are names");
+    format!("{} or {last}", others.join(", "))
+}
