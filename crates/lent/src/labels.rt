@@ -31,8 +31,11 @@ pub fn put_listing(xs: &mut [u16], label: CellLabel)
     put_sharers(xs, cells);
 }
 
+// The most cells that can be unsound, as a label has them.
+pub type Unsound = [u16; 90];
+
 // The unsound cells.
-pub fn put_cells(xs: &mut [u16], cells: [u16; 90])
+pub fn put_cells(xs: &mut [u16], cells: Unsound)
     ensures { λ r. ⌜ now (xs .exit) ≡ over (now (xs .entry)) cells ⌝ }
 {
     let room = smaller(xs.len(), 90);

@@ -42,8 +42,11 @@ pub(crate) fn put_words(xs: &mut [u16], words: [u16; 32])
     }
 }
 
-// The bytes of a record. A copy of fixed length here has the compiler put them one by one.
-pub fn put_bytes(xs: &mut [u8], bytes: [u8; 80])
+// The bytes of a record.
+pub type Bytes = [u8; 80];
+
+// A record's bytes, as far as there is room. A copy of fixed length here has the compiler put them one by one.
+pub fn put_bytes(xs: &mut [u8], bytes: Bytes)
     ensures { λ r. ⌜ now (xs .exit) ≡ over (now (xs .entry)) bytes ⌝ }
 {
     let room = smaller(xs.len(), 80);
