@@ -1,5 +1,5 @@
--- What the whole-area check's answer tells: with 0 every listed cell is sound, with 9 the named cell is the lowest that is
--- not, and the number is the first of 1, 3, 8, 9 whose case holds.
+-- What the whole-area check's answer tells: with 0 every listed cell is sound, with 9 the named cell is the lowest that
+-- is not, and the number is the first of 1, 3, 8, 9 whose case holds.
 use Prim.Native.Nat.{ℕ, _≤_, _<_}
 use native.Mathlib.Nat.{eq-zero-or-pos}
 use native.Mathlib.Omega.{arith}

@@ -1,5 +1,5 @@
--- The whole-area check. "The whole-area check answers the first of 1, 3, 8, or 9 with the lowest unsound cell number among
--- subaddresses 1-30; broadcast cells are read only if separate-broadcast is on."
+-- The whole-area check. "The whole-area check answers the first of 1, 3, 8, or 9 with the lowest unsound cell number
+-- among subaddresses 1-30; broadcast cells are read only if separate-broadcast is on."
 use Prim.Native.Nat.{ℕ, zero, suc, _%_}
 use mathlib.Core.Bool.{Bool, not, cond, _&&_, _||_}
 use mathlib.Core.List.{List, [], _∷_, _++_}
@@ -17,8 +17,8 @@ use Rattle.memory.specs.Kind.{kindNumbered}
 use Rattle.cells.specs.Cell.{cellAt, soundCell}
 use Rattle.cells.specs.Stack.{stackWindow, stackSound}
 
--- which cells are read, by number and in rising order: "subaddresses 1-30; broadcast cells .. only if separate-broadcast
--- is on", and with broadcast off "broadcast cells are not read by the whole-area check"
+-- which cells are read, by number and in rising order: "subaddresses 1-30; broadcast cells .. only if
+-- separate-broadcast is on", and with broadcast off "broadcast cells are not read by the whole-area check"
 unfoldable pub isRead : Settings → ℕ → Bool
 isRead s number =
     (leb 1 (number % 32) && leb (number % 32) 30) && (ltb number 64 || (hasBroadcastCells s && ltb number 96))

@@ -27,7 +27,8 @@ pub struct Checked {
     pub cell: u16,
 }
 
-// The lowest unsound cell of a kind that the check reads, or 0; none of a lower number is unsound. The search ends at the first.
+// The lowest unsound cell of a kind that the check reads, or 0; none of a lower number is unsound. The search ends at
+// the first.
 fn lowest_of_kind(ram: &[u16], s: Settings, stack: Window, kind: Kind) -> u16
     requires { ⌜ (isRead s (cellNumber kind 1) ≡ true) × (lowest (isUnsound (now ram) s stack) (cellNumber kind 1) ≡ 0) ⌝ }
     ensures { λ r. ⌜ r ≡ lowest (isUnsound (now (ram .entry)) s stack) (cellNumber kind 31) ⌝ }
@@ -64,8 +65,8 @@ fn lowest_unsound(ram: &[u16], s: Settings) -> u16
     0
 }
 
-// The first of 1, 3 and 8, or 0: what is tested before a cell is looked at. RAM's length comes first, so the compiler knows
-// it wherever RAM is read, and leaves out the test of each place.
+// The first of 1, 3 and 8, or 0: what is tested before a cell is looked at. RAM's length comes first, so the compiler
+// knows it wherever RAM is read, and leaves out the test of each place.
 pub fn ground_refusal(ram: &[u16], s: Settings) -> u16
     ensures { λ r. ⌜ r ≡ groundRefusal (now (ram .entry)) s ⌝ }
 {

@@ -16,8 +16,8 @@ use Rattle.arrival.specs.declared.target.Target.{Target}
 unfoldable pub cellFor : List ℕ → Settings → ℕ → Cell
 cellFor ram s command = cellAt ram (s .area) (kindOf s command) (subaddressOf command)
 
--- "Illegal and busy come from the command, whether or not the message is valid." ""own" is 1 for the terminal's own address and 0 for
--- broadcast."
+-- "Illegal and busy come from the command, whether or not the message is valid." ""own" is 1 for the terminal's own
+-- address and 0 for broadcast."
 unfoldable pub isIllegal : List ℕ → Settings → ℕ → Bool
 isIllegal ram s command = isIllegalAt ram (isOwn s command) command
 

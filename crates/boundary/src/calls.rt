@@ -37,8 +37,8 @@ pub extern "C" fn solkverva_check_area(ram: &[u16], settings: &[u16]) -> u32
     65536 * (c.number as u32) + c.cell as u32
 }
 
-// One message from record bytes. The number is the result; the answer's words, the number first, and the remembered state are put
-// over what is lent.
+// One message from record bytes. The number is the result; the answer's words, the number first, and the remembered
+// state are put over what is lent.
 #[no_mangle]
 pub extern "C" fn solkverva_message(
     ram: &mut [u16],
@@ -117,8 +117,8 @@ pub extern "C" fn solkverva_label_cell(
     label.number
 }
 
-// The label of the whole area: how many cells are unsound and how many pairs there are, the unsound cells, and the pairs as far as
-// there is room.
+// The label of the whole area: how many cells are unsound and how many pairs there are, the unsound cells, and the
+// pairs as far as there is room.
 #[no_mangle]
 pub extern "C" fn solkverva_label_area(
     ram: &[u16],

@@ -1,5 +1,5 @@
-// Who put a word where it is, for callers: tables for every address that go on with each part of a trace, what they say of an
-// address, and the question about one address.
+// Who put a word where it is, for callers: tables for every address that go on with each part of a trace, what they say
+// of an address, and the question about one address.
 ghost use mathlib.Core.Path.{_≡_};
 ghost use mathlib.Core.List.{[], _∷_};
 ghost use lib.ListN.{length};
@@ -63,7 +63,8 @@ fn put_filling(remembered: &mut [u16], records: &mut [u64], at: Filling)
     put_number(records, 0, at.number);
 }
 
-// A part of a trace, for every address at once. RAM is replayed where it is lent, and the tables go on from what they hold.
+// A part of a trace, for every address at once. RAM is replayed where it is lent, and the tables go on from what they
+// hold.
 #[no_mangle]
 pub extern "C" fn solkverva_who_fill(
     ram: &mut [u16],

@@ -1,4 +1,5 @@
--- The two runs are the one walk around the window, over window, offset and count; what they write is what the walk writes.
+-- The two runs are the one walk around the window, over window, offset and count; what they write is what the walk
+-- writes.
 use Prim.Native.Nat.{ℕ, zero, suc, _+_, _-_, _≤_, _<_, min}
 use native.Mathlib.Nat.{add-zero, zero-add}
 use native.Mathlib.Omega.{arith}

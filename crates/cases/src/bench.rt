@@ -1,5 +1,5 @@
-// What stands between two lines of a script: settings, the remembered state, how many words of RAM and reply are lent, and the
-// record at hand.
+// What stands between two lines of a script: settings, the remembered state, how many words of RAM and reply are lent,
+// and the record at hand.
 use crate::lines::Numbers;
 use crate::names;
 use crate::ram::fill;
@@ -53,7 +53,8 @@ pub(crate) fn settings(address: u16, second: u16, size: u16, yes: u16) -> Settin
     }
 }
 
-// Command, count, flags, first word, step to the next, tag; as many words as the count says. The transmit command is given before.
+// Command, count, flags, first word, step to the next, tag; as many words as the count says. The transmit command is
+// given before.
 fn record_of(n: Numbers, from: u16) -> Record {
     let mut words = [0u16; 32];
     fill(&mut words, 0, n.b, n.d, n.e);
@@ -67,7 +68,8 @@ fn record_of(n: Numbers, from: u16) -> Record {
     }
 }
 
-// The bench after a line that changes the settings, the lengths, the transmit command, the record, or a word of the record.
+// The bench after a line that changes the settings, the lengths, the transmit command, the record, or a word of the
+// record.
 pub(crate) fn built(b: Bench, name: u64, n: Numbers) -> Bench {
     let mut next = b;
     match name {

@@ -56,8 +56,8 @@ pub(crate) fn cell(ram: &[u16], b: Bench, n: Numbers) {
     );
 }
 
-// The number and the cell of the whole-area check, in area A without and with separate-broadcast, and in area B with it; whether the
-// stack is sound, and whether the settings are refused.
+// The number and the cell of the whole-area check, in area A without and with separate-broadcast, and in area B with
+// it; whether the stack is sound, and whether the settings are refused.
 pub(crate) fn check(ram: &[u16], b: Bench) {
     let s = b.settings;
     let lent = front_of(ram, b.ram);

@@ -27,8 +27,8 @@ pub(crate) struct Numbers {
     pub count: usize,
 }
 
-// The line with a byte more. A name of more than seven letters is none of ours, whatever is left of it. A number has up to four
-// digits, and there are up to six. Of a hexadecimal digit's byte, `d` is the value; of another it is not.
+// The line with a byte more. A name of more than seven letters is none of ours, whatever is left of it. A number has up
+// to four digits, and there are up to six. Of a hexadecimal digit's byte, `d` is the value; of another it is not.
 fn longer(line: Line, b: u8) -> Line {
     let mut l = line;
     if l.name == names::HEADING {

@@ -10,8 +10,8 @@ use std::num::wrapping_add_u16;
 use words::choose::pick;
 use words::settings::is_broadcast;
 
-// The number with which the reader refuses the record's first `i` bytes, or its eighty with byte `i` set if the line has three
-// numbers.
+// The number with which the reader refuses the record's first `i` bytes, or its eighty with byte `i` set if the line
+// has three numbers.
 fn refusal(v: Record, n: Numbers, i: u16) -> u16 {
     let mut changed = n;
     changed.b = i;

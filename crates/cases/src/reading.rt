@@ -15,8 +15,8 @@ use records::value::bus_b;
 use records::value::invalid_word;
 use records::value::wrong_sync;
 
-// The bytes that the writer gives, with zeros behind them, and with the byte at the second number set to the third, if the line has
-// three.
+// The bytes that the writer gives, with zeros behind them, and with the byte at the second number set to the third, if
+// the line has three.
 pub(crate) fn bytes_of(v: Record, n: Numbers) -> [u8; 160] {
     let w = layout::writer::write(v);
     let bytes = w.bytes;

@@ -39,7 +39,8 @@ fn asked(memory: &[u16], reply: &[u16], b: Bench, name: u64, n: Numbers, number:
     }
 }
 
-// A line that is printed, with its answer. A check has a word put first, if there is one: at FFFF there is no place for it.
+// A line that is printed, with its answer. A check has a word put first, if there is one: at FFFF there is no place for
+// it.
 fn answered(
     text: &[u8],
     memory: &mut [u16; 4352],

@@ -1,4 +1,5 @@
-// Printing: a form in which `%` stands for a decimal number, `$` for a word in four hexadecimal digits and `?` for yes or no.
+// Printing: a form in which `%` stands for a decimal number, `$` for a word in four hexadecimal digits and `?` for yes
+// or no.
 ghost use Prim.Native.Nat.{_≤_};
 
 // The last hexadecimal digit of a number.

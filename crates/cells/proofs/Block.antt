@@ -1,5 +1,5 @@
--- What it tells that the stack is sound, as named facts and back again; and with a listed size, that the four words of a
--- descriptor lie in a row in the block, and that the pointer moved on by 4 is sound in the same block.
+-- What it tells that the stack is sound, as named facts and back again; and with a listed size, that the four words of
+-- a descriptor lie in a row in the block, and that the pointer moved on by 4 is sound in the same block.
 use Prim.Native.Nat.{ℕ, _+_, _%_, _≤_, _<_}
 use native.Mathlib.Omega.{arith}
 use native.Mathlib.Nat.{mod-lt, mod-le, mod-mod-of-dvd, dvd-of-mod-eq-zero}
@@ -152,7 +152,8 @@ module _ (ram : List ℕ) (s : Settings) (agreed : settingsRefused s ≡ false) 
   unfolding stackWindow
   stack-next-same = entry-same (stackPointer ram s) (s .«stack_size») (f .multiple) (size-whole s agreed)
 
-  -- so the stack of a RAM that differs in the stack pointer's move alone, as far as the stack asks, is sound in the same block
+  -- so the stack of a RAM that differs in the stack pointer's move alone, as far as the stack asks, is sound in the
+  -- same block
   pub stack-moved-same :
       (after : List ℕ) → stackPointer after s ≡ placeOf (stackWindow ram s) 4 →
       SameRun (stackWindow after s) (stackWindow ram s)

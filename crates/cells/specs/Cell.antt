@@ -32,8 +32,8 @@ doublesKind Receive = true
 doublesKind Transmit = false
 doublesKind Broadcast = true
 
--- "Size field 0, no double: single." "Size field 0, bit 15 set, not transmit: double." "Size field m from 1 to 7 (bit 15
--- ignored): circular"
+-- "Size field 0, no double: single." "Size field 0, bit 15 set, not transmit: double." "Size field m from 1 to 7 (bit
+-- 15 ignored): circular"
 unfoldable pub pickScheme : ℕ → Bool → Scheme
 pickScheme m double = cond (eqb m 0) (cond double Double Single) (Circular (sizeOf m))
 
@@ -53,8 +53,8 @@ cellAt ram area kind sub =
       «end_interrupt» = eqb (controlPart (getD ram (controlPlace area sub) 0) kind / 16 % 2) 1;
     }
 
--- single: "the 32 words from the pointer"; double: "the 64 words aligned to 64 around it"; circular: "aligned to that size,
--- around the pointer"
+-- single: "the 32 words from the pointer"; double: "the 64 words aligned to 64 around it"; circular: "aligned to that
+-- size, around the pointer"
 unfoldable pub windowOf : Scheme → ℕ → Window
 windowOf Single pointer = runFrom pointer 32
 windowOf Double pointer = aligned pointer 64
@@ -70,8 +70,8 @@ doubleFits (Circular size) pointer = true
 abbrev pub cellWindow : Cell → Window
 cellWindow c = windowOf (c .scheme) (c .pointer)
 
--- "A cell is sound if its pointer and window lie in 0000-0FFF, a double pointer is a multiple of 32, and the window meets
--- neither a fixed area nor the active stack."
+-- "A cell is sound if its pointer and window lie in 0000-0FFF, a double pointer is a multiple of 32, and the window
+-- meets neither a fixed area nor the active stack."
 unfoldable pub soundCell : ℕ → Window → Cell → Bool
 soundCell words stack c =
     ((ltb (c .pointer) words && fitsBelow (cellWindow c) words) && doubleFits (c .scheme) (c .pointer))

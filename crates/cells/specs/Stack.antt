@@ -17,8 +17,8 @@ stackPointer ram s = getD ram (stackPointerPlace (s .area)) 0
 unfoldable pub stackWindow : List ℕ → Settings → Window
 stackWindow ram s = aligned (stackPointer ram s) (s .«stack_size»)
 
--- "The stack is sound if its pointer is a multiple of 4, at most 0FFC, and the block aligned to the stack size around it
--- lies in RAM and meets no fixed area." 0FFC is four below the RAM's length.
+-- "The stack is sound if its pointer is a multiple of 4, at most 0FFC, and the block aligned to the stack size around
+-- it lies in RAM and meets no fixed area." 0FFC is four below the RAM's length.
 unfoldable pub stackSound : List ℕ → Settings → Bool
 stackSound ram s =
     (eqb (stackPointer ram s % 4) 0 && leb (stackPointer ram s + 4) (length ram))

@@ -37,7 +37,8 @@ pub struct Cell {
     pub end_interrupt: bool,
 }
 
-// The five bits of a control word that belong to a kind, lowest first: size, circular interrupt, end-of-message interrupt.
+// The five bits of a control word that belong to a kind, lowest first: size, circular interrupt, end-of-message
+// interrupt.
 fn control_part(control: u16, kind: Kind) -> u16
     ensures { λ r. ⌜ r ≡ controlPart control kind ⌝ }
 {

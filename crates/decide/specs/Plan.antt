@@ -1,5 +1,5 @@
--- The plan of an accepted message, worked out before a word is written: the deed, which happens in the cell, the entry, which happens
--- on the stack, and the interrupt word.
+-- The plan of an accepted message, worked out before a word is written: the deed, which happens in the cell, the entry,
+-- which happens on the stack, and the interrupt word.
 use Prim.Native.Nat.{ℕ}
 use mathlib.Core.Bool.{Bool, true, false}
 use mathlib.Core.List.{List, [], _∷_}
@@ -15,8 +15,8 @@ use Rattle.decide.specs.declared.entry.Entry.{Entry}
 use Rattle.decide.specs.declared.plan.Plan.{Plan}
 use Rattle.decide.specs.Entry.{entryOf}
 
--- rule 9, from bit 15 down to bit 0: "14 illegal; 10 rollover with the cell's circular bit; 6 stack wrapped; 4 any fault; 2 the
--- cell's end-of-message bit; 1 and 0 always."
+-- rule 9, from bit 15 down to bit 0: "14 illegal; 10 rollover with the cell's circular bit; 6 stack wrapped; 4 any
+-- fault; 2 the cell's end-of-message bit; 1 and 0 always."
 unfoldable pub interruptWord : Signals → Bool → ℕ
 interruptWord g wrapped =
     wordOf

@@ -18,7 +18,8 @@ use Rattle.deed.specs.Motion.{motionOf}
 use Rattle.deed.specs.Deed.{deedWith, deedOf}
 use Rattle.deed.specs.Report.{blockStatus}
 
--- rule 1 of document 01. "Count fault: count differs from expected and neither flag is set." "Contents fault: a broadcast transmit."
+-- rule 1 of document 01. "Count fault: count differs from expected and neither flag is set." "Contents fault: a
+-- broadcast transmit."
 abbrev pub oldCount : Record → Bool
 oldCount v = not (eqb (v .count) (expectedWords (v .command))) && not (hasWrongSync v || hasInvalidWord v)
 
@@ -28,7 +29,8 @@ oldContents t v = t .broadcast && transmits (v .command)
 abbrev pub oldFault : Target → Record → Bool
 oldFault t v = (hasWrongSync v || hasInvalidWord v) || (oldCount v || oldContents t v)
 
--- "15 set; 13 bus B; 12 and 10 any fault; 7 rollover; 6 illegal; 5 count; 4 sync; 3 invalid word; 0 contents. Others 0."
+-- "15 set; 13 bus B; 12 and 10 any fault; 7 rollover; 6 illegal; 5 count; 4 sync; 3 invalid word; 0 contents. Others
+-- 0."
 abbrev pub oldBlockStatus : Target → Record → Bool → ℕ
 oldBlockStatus t v rollover =
     wordOf

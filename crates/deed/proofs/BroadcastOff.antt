@@ -1,5 +1,5 @@
--- The status word has the RT address whole, 31 too; and with broadcast off a message to 31 is one like all others: "own" is
--- yes, bit 4 of the status stays 0, and no transmit has a contents fault.
+-- The status word has the RT address whole, 31 too; and with broadcast off a message to 31 is one like all others:
+-- "own" is yes, bit 4 of the status stays 0, and no transmit has a contents fault.
 use Prim.Native.Nat.{ℕ, _+_, _*_, _/_, _%_}
 use native.Mathlib.Omega.{arith}
 use mathlib.Core.Path.{_≡_}

@@ -13,8 +13,8 @@ use Rattle.deed.specs.Act.{actOf}
 use Rattle.deed.specs.Motion.{motionOf}
 use Rattle.deed.specs.Report.{blockStatus, statusWord}
 
--- what the interrupt word tells of the message: "14 illegal; 10 rollover with the cell's circular bit; .. 4 any fault; 2 the cell's
--- end-of-message bit"
+-- what the interrupt word tells of the message: "14 illegal; 10 rollover with the cell's circular bit; .. 4 any fault;
+-- 2 the cell's end-of-message bit"
 unfoldable pub signalsOf : Target → Act → Motion → Signals
 signalsOf t a m =
     record {

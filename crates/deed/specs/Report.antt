@@ -8,8 +8,9 @@ use Rattle.records.specs.declared.fault.Faults.{Faults}
 use Rattle.records.specs.Fault.{anyFault}
 use Rattle.arrival.specs.declared.target.Target.{Target}
 
--- "15 set; 13 bus B; 12 and 10 any fault; 7 rollover; 6 illegal; 5 count; 4 sync; 3 invalid word; 0 contents. Others 0." "Block status
--- gains 11 for the transfer, and 9, 2 and 1 for these three": no status; a wrong gap, sync or address in it; a bad second command.
+-- "15 set; 13 bus B; 12 and 10 any fault; 7 rollover; 6 illegal; 5 count; 4 sync; 3 invalid word; 0 contents. Others
+-- 0." "Block status gains 11 for the transfer, and 9, 2 and 1 for these three": no status; a wrong gap, sync or address
+-- in it; a bad second command.
 unfoldable pub blockStatus : Bool → Bool → Faults → Bool → Bool → ℕ
 blockStatus busB transfer f rollover illegal =
     wordOf

@@ -1,6 +1,6 @@
--- The cases computed, in one statement. In the first three the exchange is allowed: descriptors change places on the stack, and in
--- the second the stack-rollover bit passes to the other message; all that demand 3 says holds. In each of the others one
--- condition fails, and with it what demand 3 says: other words are sent, or a message is refused.
+-- The cases computed, in one statement. In the first three the exchange is allowed: descriptors change places on the
+-- stack, and in the second the stack-rollover bit passes to the other message; all that demand 3 says holds. In each of
+-- the others one condition fails, and with it what demand 3 says: other words are sent, or a message is refused.
 use Prim.Native.Nat.{ℕ}
 use mathlib.Core.Path.{_≡_, refl}
 use mathlib.Core.Bool.{true, false}

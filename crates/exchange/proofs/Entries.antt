@@ -1,5 +1,5 @@
--- The stack's block after a run is what `stackWord` says of the descriptors in their order: the last that fit, and the rest as
--- it was.
+-- The stack's block after a run is what `stackWord` says of the descriptors in their order: the last that fit, and the
+-- rest as it was.
 use Prim.Native.Nat.{ℕ, zero, suc, _+_, _*_, _-_, _/_, _%_, _≤_, _<_}
 use native.Mathlib.Omega.{arith}
 use native.Mathlib.Nat.{mod-eq-of-lt}
@@ -183,8 +183,8 @@ stack-holds s vs x g f =
     word-at block (descriptors s vs x) (x .ram) (run s vs x .ram) z h
     (filled s vs x (block .start) (block .size) (block .offset) g f z refl h)
 
--- "The stack holds the last descriptors that fit": each of the last that the block has room for stands at its place, the first
--- at the stack pointer and each later one behind the one before, wrapping
+-- "The stack holds the last descriptors that fit": each of the last that the block has room for stands at its place,
+-- the first at the stack pointer and each later one behind the one before, wrapping
 pub last-fit :
     (s : Settings) (vs : List Heard) (x : State) →
     Good s x →

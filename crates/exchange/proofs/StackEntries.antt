@@ -1,5 +1,5 @@
--- Entries of a stack of whole entries, by plain numbers and once over the size: how many entries on from the stack pointer a place
--- stands, and which descriptor is the last there.
+-- Entries of a stack of whole entries, by plain numbers and once over the size: how many entries on from the stack
+-- pointer a place stands, and which descriptor is the last there.
 use Prim.Native.Nat.{ℕ, suc, _+_, _*_, _-_, _/_, _%_, _≤_, _<_}
 use native.Mathlib.Omega.{arith}
 use native.Mathlib.Nat.{mod-eq-of-lt, mod-eq-sub-mod, mod-self, mod-lt, mod-add-mod, div-add-mod, mul-comm, mul-assoc, mul-add-mod-self-left}
@@ -11,7 +11,8 @@ use Rattle.cells.proofs.Block.{WholeEntries, Offset, offset-of}
 abbrev pub on : ℕ → ℕ → ℕ → ℕ
 on n o j = (j + (n - o)) % n / 4
 
--- the last of m descriptors at a place's entry: it is one of them, no later one comes there, and its word is at that place
+-- the last of m descriptors at a place's entry: it is one of them, no later one comes there, and its word is at that
+-- place
 pub record Last (n o j m i : ℕ) : Type 0 where
   pub one : i < m
   pub fits : m ≤ i + n / 4

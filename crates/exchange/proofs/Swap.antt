@@ -1,4 +1,5 @@
--- Two neighbours exchanged: RAM outside the stack ends equal, and each message shows the same but for the stack-rollover bit.
+-- Two neighbours exchanged: RAM outside the stack ends equal, and each message shows the same but for the
+-- stack-rollover bit.
 use Prim.Native.Nat.{ℕ}
 use native.Mathlib.Omega.{arith}
 use mathlib.Core.Path.{_≡_, sym, _∙_}

@@ -12,8 +12,8 @@ use Rattle.exchange.specs.Order.{exchangeAll}
 use Rattle.exchange.specs.Descriptors.{stackWord}
 use Rattle.exchange.specs.Kept.{withoutStackRollover}
 
--- "Each message keeps its reply, descriptor and interrupt word, except the stack-rollover bit.": what each message shows in the
--- old order, followed through the same exchanges
+-- "Each message keeps its reply, descriptor and interrupt word, except the stack-rollover bit.": what each message
+-- shows in the old order, followed through the same exchanges
 unfoldable pub keptAfter : Settings → State → List Heard → List ℕ → List Effect
 keptAfter s x hs places = exchangeAll places (map withoutStackRollover (effects s hs x))
 

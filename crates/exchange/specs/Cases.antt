@@ -52,8 +52,8 @@ pub record Case : Type 0 where
 unfoldable pub startOf : Case → State
 startOf c = stateOf (applyWrites (c .ram) plainRam) (replicate (c .room) 0) nothingRemembered
 
--- one order of a case: words of RAM at the places to look at; for each message its number, what it sends and its interrupt word;
--- and what is remembered
+-- one order of a case: words of RAM at the places to look at; for each message its number, what it sends and its
+-- interrupt word; and what is remembered
 pub record Order : Type 0 where
   pub words : List ℕ
   pub numbers : List ℕ
@@ -71,8 +71,8 @@ orderOf look x es =
       remembered = x .remembered;
     }
 
--- what demand 3 says of the new order: words of the stack's block, from place 0 on; for each message what it sends and its
--- interrupt word; and what is remembered
+-- what demand 3 says of the new order: words of the stack's block, from place 0 on; for each message what it sends and
+-- its interrupt word; and what is remembered
 pub record Said : Type 0 where
   pub stack : List ℕ
   pub sends : List (List ℕ)
@@ -110,8 +110,8 @@ seen c =
 
 -- ---- allowed
 
--- two receives into windows that don't meet, 0480-04FF and 0500-051F; the second has a word too few. Their descriptors change
--- places on the stack, and so does what is remembered
+-- two receives into windows that don't meet, 0480-04FF and 0500-051F; the second has a word too few. Their descriptors
+-- change places on the stack, and so does what is remembered
 abbrev pub twoReceives : Case
 twoReceives =
     record {
@@ -122,7 +122,8 @@ twoReceives =
       look = 0 ∷ 1 ∷ 2 ∷ 3 ∷ 4 ∷ 5 ∷ 6 ∷ 7 ∷ 0x100 ∷ 0x143 ∷ 0x4FE ∷ 0x480 ∷ 0x500 ∷ [];
     }
 
--- two transmits whose windows meet, and that both only send; the stack wraps after the first of the two, whichever it is
+-- two transmits whose windows meet, and that both only send; the stack wraps after the first of the two, whichever it
+-- is
 abbrev pub twoTransmits : Case
 twoTransmits =
     record {
@@ -133,7 +134,8 @@ twoTransmits =
       look = 0xFC ∷ 0xFD ∷ 0xFE ∷ 0xFF ∷ 0 ∷ 1 ∷ 2 ∷ 3 ∷ 0x100 ∷ 0x163 ∷ [];
     }
 
--- "Demand 3 reads over the widened records." Two RT-to-RT transfers into windows that don't meet; the second's transmitter gave no status
+-- "Demand 3 reads over the widened records." Two RT-to-RT transfers into windows that don't meet; the second's
+-- transmitter gave no status
 abbrev pub twoTransfers : Case
 twoTransfers =
     record {

@@ -12,8 +12,8 @@ use Rattle.arrival.specs.Target.{targetOf}
 use Rattle.message.specs.Heard.{Heard}
 use Rattle.exchange.specs.Order.{swapAt}
 
--- "well-formed data messages for this terminal": the record has its length and keeps its layout, the address is ours or broadcast, the
--- subaddress is 1 to 30
+-- "well-formed data messages for this terminal": the record has its length and keeps its layout, the address is ours or
+-- broadcast, the subaddress is 1 to 30
 unfoldable pub wellFormed : Settings → Heard → Bool
 wellFormed s h =
     (not (h .badLength) && not (h .badLayout))
@@ -23,8 +23,8 @@ unfoldable pub allWellFormed : Settings → List Heard → Bool
 allWellFormed s [] = true
 allWellFormed s (h ∷ hs) = wellFormed s h && allWellFormed s hs
 
--- "if they use different cells whose windows don't meet, or that both only send": a transmit command uses a transmit cell,
--- which only sends
+-- "if they use different cells whose windows don't meet, or that both only send": a transmit command uses a transmit
+-- cell, which only sends
 unfoldable pub mayExchange : List ℕ → Settings → Record → Record → Bool
 mayExchange ram s a b =
     not (eqb (targetOf ram s (a .command) .number) (targetOf ram s (b .command) .number))

@@ -15,7 +15,8 @@ entriesOn block j = (j + (block .size - block .offset)) % block .size / 4
 unfoldable pub lastOf : ℕ → ℕ → ℕ → ℕ
 lastOf n on room = on + (n - 1 - on) / room * room
 
--- the word at place j of the block: a word of the last descriptor that was put there, or, where none was, the word as it was
+-- the word at place j of the block: a word of the last descriptor that was put there, or, where none was, the word as
+-- it was
 unfoldable pub stackWord : List ℕ → Window → List (List ℕ) → ℕ → ℕ
 stackWord before block ds j =
     cond (ltb (entriesOn block j) (length ds))

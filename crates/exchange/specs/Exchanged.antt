@@ -22,12 +22,13 @@ use Rattle.exchange.specs.After.{keptAfter, stackAfter, rememberedAfter,
 unfoldable pub startsWell : Settings → State → Bool
 startsWell s x = eqb (checkArea (x .ram) s .number) 0 && not (replyRefused (length (x .reply)))
 
--- "Take any non-empty list of well-formed data messages for this terminal, with fixed settings and no host write between.":
--- `run` takes them so
+-- "Take any non-empty list of well-formed data messages for this terminal, with fixed settings and no host write
+-- between.": `run` takes them so
 unfoldable pub takesWell : Settings → List Heard → Bool
 takesWell s hs = ltb 0 (length hs) && allWellFormed s hs
 
--- "Exchange neighbours as often as you like, if they use different cells whose windows don't meet, or that both only send."
+-- "Exchange neighbours as often as you like, if they use different cells whose windows don't meet, or that both only
+-- send."
 unfoldable pub asked : Settings → State → List Heard → List ℕ → Bool
 asked s x hs places = (startsWell s x && takesWell s hs) && allowedAll (x .ram) s places hs
 
@@ -40,8 +41,8 @@ unfoldable pub allDone : List Effect → Type 0
 allDone [] = Unit {0}
 allDone (e ∷ es) = (e .answer .number ≡ 0) × allDone es
 
--- the messages `hs` run from x, beside the same messages in the new order run from x; with no exchange at all, `places` is
--- empty and the new order is the old
+-- the messages `hs` run from x, beside the same messages in the new order run from x; with no exchange at all, `places`
+-- is empty and the new order is the old
 pub record Exchanged (s : Settings) (x : State) (hs : List Heard) (places : List ℕ) : Type 0 where
   -- no message is refused, in the old order or in the new one
   pub done : allDone (effects s hs x) × allDone (effects s (exchangeAll places hs) x)

@@ -14,7 +14,8 @@ use words::command::transmit;
 use words::settings::Settings;
 use words::settings::is_not_ours;
 
-// A well-formed data message for this terminal: where the whole-area check passes and there is room for the reply, it is not refused.
+// A well-formed data message for this terminal: where the whole-area check passes and there is room for the reply, it
+// is not refused.
 pub fn well_formed(s: Settings, v: Record) -> bool
     ensures { λ r. ⌜ r ≡ wellFormed s (heardValue v) ⌝ }
 {
@@ -27,7 +28,8 @@ pub fn well_formed(s: Settings, v: Record) -> bool
     )
 }
 
-// Two messages that are neighbours may change places: their cells differ, and their windows don't meet or both only send.
+// Two messages that are neighbours may change places: their cells differ, and their windows don't meet or both only
+// send.
 pub fn may_exchange(ram: &[u16], s: Settings, a: Record, b: Record) -> bool
     ensures { λ r. ⌜ r ≡ mayExchange (now (ram .entry)) s a b ⌝ }
 {

@@ -1,5 +1,5 @@
--- What the answers tell: when 9 refuses, how many there can be, where a cell's mark stands, and that the unsound cells are
--- those of the whole-area check.
+-- What the answers tell: when 9 refuses, how many there can be, where a cell's mark stands, and that the unsound cells
+-- are those of the whole-area check.
 use Prim.Native.Nat.{ℕ, _<_, _≤_}
 use native.Mathlib.Omega.{arith}
 use mathlib.Core.Path.{_≡_, refl, sym, ap, _∙_}

@@ -1,4 +1,5 @@
--- How many there can be: at most 90 unsound cells, 89 cells in one listing, 4,005 pairs. Ninety cells have a subaddress from 1 to 30.
+-- How many there can be: at most 90 unsound cells, 89 cells in one listing, 4,005 pairs. Ninety cells have a subaddress
+-- from 1 to 30.
 use Prim.Native.Nat.{ℕ, zero, suc, _+_, _-_, _%_, _<_, _≤_}
 use native.Mathlib.Nat.{add-zero, add-suc}
 use native.Mathlib.Omega.{arith}

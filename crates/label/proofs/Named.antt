@@ -1,5 +1,5 @@
--- The unsound cells that the area's label names are those of the whole-area check: none exactly where it does not answer 9, and
--- the first is the one that it names.
+-- The unsound cells that the area's label names are those of the whole-area check: none exactly where it does not
+-- answer 9, and the first is the one that it names.
 use Prim.Native.Nat.{ℕ, _<_}
 use native.Mathlib.Nat.{eq-zero-or-pos}
 use native.Mathlib.Omega.{arith}

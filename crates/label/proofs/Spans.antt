@@ -1,4 +1,5 @@
--- Comparing spans is comparing windows: a cell that takes no part has no span, and a span without an address meets none.
+-- Comparing spans is comparing windows: a cell that takes no part has no span, and a span without an address meets
+-- none.
 use Prim.Native.Nat.{ℕ, _+_, _-_, _<_, _≤_}
 use native.Mathlib.Omega.{arith}
 use mathlib.Core.Path.{_≡_, refl, sym, _∙_}

@@ -143,7 +143,8 @@ rows-more room before row =
 
 -- ---- turns of the loops that list
 
--- what is made of the numbers below n that pass stands in a list from the place `used` on, and `at` is the place after it
+-- what is made of the numbers below n that pass stands in a list from the place `used` on, and `at` is the place after
+-- it
 pub record Run {A : Type 0} (f : ℕ → A) (t : ℕ → Bool) (n used : ℕ) (room now : List A) (at : ℕ) : Type 0 where
   pub words : now ≡ sets room used (map f (passing t n))
   pub place : at ≡ used + length (passing t n)

@@ -101,7 +101,7 @@ unfoldable pub areaLabel : List ℕ → Settings → AreaLabel
 areaLabel ram s =
     areaAnswer (groundRefusal ram s) (areaUnsound ram s) (length (areaPairs ram s))
 
--- the lent words afterwards: a word for each pair from the first place on, as far as there is room; the others keep their
--- contents
+-- the lent words afterwards: a word for each pair from the first place on, as far as there is room; the others keep
+-- their contents
 unfoldable pub pairsInto : List ℕ → Settings → List ℕ → List ℕ
 pairsInto ram s room = sets room 0 (pairWords (areaPairs ram s))

@@ -1,4 +1,5 @@
-// The windows of all cells, read once: where each begins and where it ends. A cell that is not read or not sound has none.
+// The windows of all cells, read once: where each begins and where it ends. A cell that is not read or not sound has
+// none.
 ghost use mathlib.Core.Path.{_≡_};
 ghost use Rattle.label.specs.Span.{spanOfWindow, spanOf, startsInto, endsInto, spansMeet};
 use crate::cell::cell_numbered;

@@ -25,8 +25,8 @@ pub struct AreaLabel {
     pub pairs: u16,
 }
 
-// The pairs of which this cell is the lower, from the place `used` on. Answers the place after them. A cell that takes no part
-// has none.
+// The pairs of which this cell is the lower, from the place `used` on. Answers the place after them. A cell that takes
+// no part has none.
 fn put_pairs_with(
     starts: &[u32; 96],
     ends: &[u32; 96],

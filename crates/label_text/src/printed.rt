@@ -1,5 +1,5 @@
-// The label's whole text into a lent buffer, as far as it reaches. Each function answers the place after what it puts there, so
-// that a caller sees what did not fit.
+// The label's whole text into a lent buffer, as far as it reaches. Each function answers the place after what it puts
+// there, so that a caller sees what did not fit.
 ghost use mathlib.Core.List.{flatMap};
 ghost use lib.ListN.{take};
 ghost use Rattle.text.specs.Text.{Put, PutFirst};

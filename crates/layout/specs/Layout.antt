@@ -25,7 +25,8 @@ areZero s from (suc n) = areZero s from n && eqb (getD s (from + n) 0) 0
 unfoldable pub wordsIn : List ℕ → List ℕ
 wordsIn s = fill (λ k. wordAt s (16 + 2 * k)) zeroWords 32
 
--- "Bytes 0-1 command; .. 4-5 time tag; 6 flags ..; 7 count; .. 16-79 thirty-two words." "bytes 2-3 hold the transmit command"
+-- "Bytes 0-1 command; .. 4-5 time tag; 6 flags ..; 7 count; .. 16-79 thirty-two words." "bytes 2-3 hold the transmit
+-- command"
 unfoldable pub valueIn : List ℕ → Record
 valueIn s =
     record {

@@ -68,7 +68,8 @@ pub(crate) fn swap_bytes(w: u16) -> u16
     w % 256 * 256 + w / 256 % 256
 }
 
-// Copied first, so that the bytes are swapped in eight words at a time. Joined from two bytes each, they come one by one.
+// Copied first, so that the bytes are swapped in eight words at a time. Joined from two bytes each, they come one by
+// one.
 fn words_in(s: &[u8]) -> [u16; 32]
     requires { ⌜ length (now s) ≡ 80 ⌝ }
     ensures { λ r. ⌜ r ≡ wordsIn (now (s .entry)) ⌝ }

@@ -17,8 +17,8 @@ isYes w = not (eqb w 0)
 unfoldable pub areaFrom : ℕ → Area
 areaFrom w = cond (eqb w 0) A B
 
--- twelve words: address, area, stack size, the yes/no settings in document 01's order, and broadcast off. The last one says
--- "off", so that who lends the eleven words of before has broadcast on, as before.
+-- twelve words: address, area, stack size, the yes/no settings in document 01's order, and broadcast off. The last one
+-- says "off", so that who lends the eleven words of before has broadcast on, as before.
 unfoldable pub settingsFrom : List ℕ → Settings
 settingsFrom xs =
     record {

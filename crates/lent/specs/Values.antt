@@ -1,5 +1,6 @@
--- Record values as plain words: command, tag, flags, count, the thirty-two words, and last the transmit command, so that who lends
--- 36 words says what was said before there were transfers. A word past the end of what is lent counts as 0.
+-- Record values as plain words: command, tag, flags, count, the thirty-two words, and last the transmit command, so
+-- that who lends 36 words says what was said before there were transfers. A word past the end of what is lent counts as
+-- 0.
 use Prim.Native.Nat.{ℕ, _+_, min}
 use mathlib.Core.List.{List, [], _∷_, _++_}
 use lib.ListN.{getD}

@@ -18,8 +18,8 @@ fn put_answer(xs: &mut [u16], a: Answer)
     put_four(xs, 0, a.number, a.block_status, a.cell, a.before);
 }
 
-// What a message answers and what is remembered after it, put over what is lent; the number is also the result, so that it
-// reaches the caller whatever room there is.
+// What a message answers and what is remembered after it, put over what is lent; the number is also the result, so that
+// it reaches the caller whatever room there is.
 pub fn hand_back(remembered: &mut [u16], answer: &mut [u16], o: Outcome) -> u16
     ensures number { λ r. ⌜ r ≡ o .answer .number ⌝ }
     ensures remembered { λ r. ⌜ now (remembered .exit) ≡ over (now (remembered .entry)) (rememberedWords (o .remembered)) ⌝ }

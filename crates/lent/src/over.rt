@@ -1,5 +1,5 @@
-// Words and bytes put over lent ones. Single words go from the last to the first: where there is room for the last there is room for
-// all, so one test of the length is left. Many are copied upwards, as far as there is room.
+// Words and bytes put over lent ones. Single words go from the last to the first: where there is room for the last
+// there is room for all, so one test of the length is left. Many are copied upwards, as far as there is room.
 ghost use mathlib.Core.Path.{_≡_};
 ghost use Prim.Native.Nat.{min, _≤_};
 ghost use lib.ListN.{length};
@@ -31,7 +31,8 @@ fn put_words_below(xs: &mut [u16], words: [u16; 32], room: usize)
     }
 }
 
-// The thirty-two words of a value, from place 4 on. Where there is room for all, the compiler sees a copy of fixed length.
+// The thirty-two words of a value, from place 4 on. Where there is room for all, the compiler sees a copy of fixed
+// length.
 pub(crate) fn put_words(xs: &mut [u16], words: [u16; 32])
     ensures { λ r. ⌜ now (xs .exit) ≡ sets (now (xs .entry)) 4 words ⌝ }
 {

@@ -1,4 +1,5 @@
--- Where the places of the memory map lie, that RAM has them, that they differ, and that no ordinary address is one of them.
+-- Where the places of the memory map lie, that RAM has them, that they differ, and that no ordinary address is one of
+-- them.
 use Prim.Native.Nat.{ℕ, _≤_, _<_}
 use native.Mathlib.Omega.{arith}
 use mathlib.Core.Path.{_≡_}

@@ -1,5 +1,5 @@
--- The kinds of cell. "A cell is a kind and a subaddress; its number is 32·kind + subaddress, with receive 0, transmit 1,
--- broadcast 2."
+-- The kinds of cell. "A cell is a kind and a subaddress; its number is 32·kind + subaddress, with receive 0, transmit
+-- 1, broadcast 2."
 use Prim.Native.Nat.{ℕ, _+_, _*_}
 use mathlib.Core.Bool.{cond, _&&_}
 use lib.Dec.{ltb}

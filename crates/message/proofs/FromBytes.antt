@@ -1,5 +1,5 @@
--- Record bytes and their reader: its number is that of the record's tests, and bytes that it takes are heard as the value that it
--- gives, so that what holds of values holds of them.
+-- Record bytes and their reader: its number is that of the record's tests, and bytes that it takes are heard as the
+-- value that it gives, so that what holds of values holds of them.
 use Prim.Native.Nat.{ℕ}
 use mathlib.Core.Path.{_≡_, ap}
 use mathlib.Core.Logic.{⊎-elim}

@@ -1,5 +1,5 @@
--- The tests in turn: the number is that of the early tests, else that of the record's, else that of the command's. So a test that
--- is not reached need not be worked out.
+-- The tests in turn: the number is that of the early tests, else that of the record's, else that of the command's. So a
+-- test that is not reached need not be worked out.
 use Prim.Native.Nat.{ℕ}
 use native.Mathlib.Omega.{arith}
 use mathlib.Core.Path.{_≡_, refl, sym, _∙_}

@@ -1,5 +1,5 @@
--- What an accepted message keeps: every cell's window, the control, illegal and busy words, and the stack's block. Where the
--- whole-area check passed before, it passes afterwards.
+-- What an accepted message keeps: every cell's window, the control, illegal and busy words, and the stack's block.
+-- Where the whole-area check passed before, it passes afterwards.
 use Prim.Native.Nat.{ℕ, _%_, _<_}
 use native.Mathlib.Omega.{arith}
 use mathlib.Core.Path.{_≡_, refl, sym, _∙_}

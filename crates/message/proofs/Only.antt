@@ -1,5 +1,5 @@
--- Any call, refused or not: words outside the cell's window, its lookup word, the active stack's block and the stack pointer
--- are never changed, nor any word of the reply behind those sent; windows and the stack's block stay.
+-- Any call, refused or not: words outside the cell's window, its lookup word, the active stack's block and the stack
+-- pointer are never changed, nor any word of the reply behind those sent; windows and the stack's block stay.
 use Prim.Native.Nat.{ℕ, _≤_}
 use native.Mathlib.Omega.{arith}
 use mathlib.Core.Path.{_≡_, refl}

@@ -1,5 +1,5 @@
--- "0 is done. No other case is refused." The number is 0 exactly when none of the tests holds, and n exactly when test n is the first
--- that holds; a refusal changes nothing, and an accepted message is its plan carried out.
+-- "0 is done. No other case is refused." The number is 0 exactly when none of the tests holds, and n exactly when test
+-- n is the first that holds; a refusal changes nothing, and an accepted message is its plan carried out.
 use Prim.Native.Nat.{ℕ}
 use mathlib.Core.Path.{_≡_, refl, sym, _∙_}
 use mathlib.Core.Logic.{_↔_, ⊎-elim}

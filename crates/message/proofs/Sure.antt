@@ -1,5 +1,5 @@
--- What the tests before an accepted message have shown of RAM: its length is that of a RAM, and the stack and the message's cell are
--- sound.
+-- What the tests before an accepted message have shown of RAM: its length is that of a RAM, and the stack and the
+-- message's cell are sound.
 use Prim.Native.Nat.{ℕ, _≤_}
 use mathlib.Core.Path.{_≡_, refl}
 use mathlib.Core.Bool.{false}

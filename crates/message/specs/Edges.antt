@@ -1,4 +1,5 @@
--- The cases marked P of "Both sides of each edge", as one table: what each case starts from, and the row that it must give.
+-- The cases marked P of "Both sides of each edge", as one table: what each case starts from, and the row that it must
+-- give.
 use Prim.Native.Nat.{ℕ, _+_, _%_}
 use mathlib.Core.Bool.{Bool, true, false}
 use mathlib.Core.List.{List, [], _∷_, _++_}
@@ -33,8 +34,8 @@ pub record TableBit : Type 0 where
   pub word : ℕ
   pub bit : ℕ
 
--- what a case gives: the answer, what is remembered, the words sent, the words written to RAM in order, and what the command
--- alone says: how many words are expected, and where its illegal and busy bits are
+-- what a case gives: the answer, what is remembered, the words sent, the words written to RAM in order, and what the
+-- command alone says: how many words are expected, and where its illegal and busy bits are
 pub record Row : Type 0 where
   pub answer : Answer
   pub remembered : Remembered

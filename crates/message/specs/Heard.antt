@@ -1,4 +1,5 @@
--- What was heard: a record value, and what its own form says against it. Bytes and values are two ways into one definition.
+-- What was heard: a record value, and what its own form says against it. Bytes and values are two ways into one
+-- definition.
 use Prim.Native.Nat.{ℕ}
 use mathlib.Core.Bool.{Bool, false, not}
 use mathlib.Core.List.{List}

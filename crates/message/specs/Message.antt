@@ -1,4 +1,5 @@
--- One message: its answer, and the state that it leaves: every word of RAM and of the reply buffer, and what is remembered.
+-- One message: its answer, and the state that it leaves: every word of RAM and of the reply buffer, and what is
+-- remembered.
 use Prim.Native.Nat.{ℕ}
 use mathlib.Core.Bool.{cond}
 use lib.Dec.{eqb}

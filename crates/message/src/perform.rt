@@ -1,5 +1,5 @@
-// A record in order, performed: tested by its command, and then carried out by its plan. Whoever needs the plan asks here; the
-// compiler has one copy of all of it.
+// A record in order, performed: tested by its command, and then carried out by its plan. Whoever needs the plan asks
+// here; the compiler has one copy of all of it.
 ghost use mathlib.Core.Path.{_≡_};
 ghost use Rattle.words.specs.Refusal.{firstOf};
 ghost use Rattle.memory.specs.State.{stateOf};
@@ -23,7 +23,8 @@ pub enum Performed {
     Done(Plan),
 }
 
-// The test of RAM's length also tells the compiler how long it is, which then leaves out the bounds tests of fixed places.
+// The test of RAM's length also tells the compiler how long it is, which then leaves out the bounds tests of fixed
+// places.
 pub fn perform(
     ram: &mut [u16],
     reply: &mut [u16],

@@ -1,5 +1,5 @@
--- What a record meant before there were transfers: the records that are no transfers are those that document 01 takes, and they have
--- document 01's four faults.
+-- What a record meant before there were transfers: the records that are no transfers are those that document 01 takes,
+-- and they have document 01's four faults.
 use Prim.Native.Nat.{ℕ, _/_, _%_, _≤_}
 use native.Mathlib.Omega.{arith}
 use mathlib.Core.Path.{_≡_}
@@ -29,7 +29,8 @@ plain v h =
       second = ne-eqb (v .flags / 64 % 2) 1 (λ e. omega arith);
     }
 
--- document 01's layout: "2-3 zero", "higher bits zero", "Count is .. 0 to 33", "Words after the first min(count, 32) are zero."
+-- document 01's layout: "2-3 zero", "higher bits zero", "Count is .. 0 to 33", "Words after the first min(count, 32)
+-- are zero."
 abbrev pub oldLayout : Record → Bool
 oldLayout v = (leb (v .flags) 7 && leb (v .count) 33) && lastsZero (v .words) (v .count) 32
 

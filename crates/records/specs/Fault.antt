@@ -12,9 +12,9 @@ use Rattle.records.specs.declared.fault.Faults.{Faults}
 unfoldable pub expectedWords : ℕ → ℕ
 expectedWords command = cond (transmits command) 0 (wordCount command)
 
--- "Sync fault and invalid word come from the flags. Count fault: count differs from expected and neither flag is set." Of flags 16 to 64:
--- "each is a fault, and with any of them no count fault is set."
--- The caller says how many words are expected, and whether the contents are at fault.
+-- "Sync fault and invalid word come from the flags. Count fault: count differs from expected and neither flag is set."
+-- Of flags 16 to 64: "each is a fault, and with any of them no count fault is set." The caller says how many words are
+-- expected, and whether the contents are at fault.
 unfoldable pub faultsOf : ℕ → Bool → Record → Faults
 faultsOf expected contents v =
     record {

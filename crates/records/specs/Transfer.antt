@@ -9,7 +9,8 @@ use Rattle.records.specs.declared.value.Record.{Record}
 abbrev pub isTransfer : Record → Bool
 isTransfer v = eqb (v .flags / 8 % 2) 1
 
--- "Flag 16 means that the transmitter gave no status, 32 a wrong gap, sync or address in that status, 64 a bad second command."
+-- "Flag 16 means that the transmitter gave no status, 32 a wrong gap, sync or address in that status, 64 a bad second
+-- command."
 abbrev pub hasNoStatus : Record → Bool
 hasNoStatus v = eqb (v .flags / 16 % 2) 1
 
@@ -23,8 +24,8 @@ hasBadSecond v = eqb (v .flags / 64 % 2) 1
 unfoldable pub transferFails : Record → Bool
 transferFails v = hasNoStatus v || (hasWrongGap v || hasBadSecond v)
 
--- "5 also when flag 8 is on a transmit command, when flags 16 to 64 or bytes 2-3 are set without flag 8, or when the count is not 0 with
--- flags 16 to 64."
+-- "5 also when flag 8 is on a transmit command, when flags 16 to 64 or bytes 2-3 are set without flag 8, or when the
+-- count is not 0 with flags 16 to 64."
 unfoldable pub breaksTransfer : Record → Bool
 breaksTransfer v =
     (isTransfer v && transmits (v .command))

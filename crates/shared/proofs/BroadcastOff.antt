@@ -1,5 +1,5 @@
--- With broadcast off no message is carried out in a broadcast cell: its plan names none, from which also the origin of a word is told,
--- and neither does its answer.
+-- With broadcast off no message is carried out in a broadcast cell: its plan names none, from which also the origin of
+-- a word is told, and neither does its answer.
 use Prim.Native.Nat.{ℕ, _<_}
 use native.Mathlib.Omega.{arith}
 use mathlib.Core.Path.{_≡_}

@@ -1,4 +1,5 @@
--- The printed label means what it says: whoever stores a word in a cell's window is that cell, or stands in its label as able to write.
+-- The printed label means what it says: whoever stores a word in a cell's window is that cell, or stands in its label
+-- as able to write.
 use Prim.Native.Nat.{ℕ, _+_, _≤_, _<_}
 use native.Mathlib.Omega.{arith}
 use mathlib.Core.Path.{_≡_, refl, sym, _∙_}

@@ -1,5 +1,6 @@
--- What the printed label of document 02, request 1, means for a message: an accepted message stores no word in the window of another
--- cell that is read and sound, unless that cell's label names the message's cell, marked as able to write.
+-- What the printed label of document 02, request 1, means for a message: an accepted message stores no word in the
+-- window of another cell that is read and sound, unless that cell's label names the message's cell, marked as able to
+-- write.
 use Prim.Native.Nat.{ℕ, _+_, _≤_, _<_}
 use mathlib.Core.Path.{_≡_}
 use mathlib.Core.Bool.{true}

@@ -23,8 +23,8 @@ fn read_at(buffer: &mut [u8], at: usize) -> Filled
     }
 }
 
-// Reads until the buffer is full, the input ends or a read fails. What is read is for the system to say; never is it more than the
-// buffer holds.
+// Reads until the buffer is full, the input ends or a read fails. What is read is for the system to say; never is it
+// more than the buffer holds.
 pub fn fill(buffer: &mut [u8]) -> Filled
     ensures { λ r. ⌜ Counts (r .got) (now (buffer .exit)) ⌝ }
 {

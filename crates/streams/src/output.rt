@@ -25,8 +25,8 @@ fn write_front(out: &[u8], used: usize) -> bool {
     written
 }
 
-// Prints the text at the front of the buffer, as far as the buffer reaches. Answers whether all went well so far: where something
-// failed before, nothing is printed. What else the answer is is for the system to say.
+// Prints the text at the front of the buffer, as far as the buffer reaches. Answers whether all went well so far: where
+// something failed before, nothing is printed. What else the answer is is for the system to say.
 pub fn print(out: &[u8], used: usize, well: bool) -> bool
     ensures { λ r. ⌜ r ≡ (well && r) ⌝ }
 {

@@ -1,4 +1,5 @@
--- The tables' writes stand beside the plan's: the same places in the same order, each with the word for what is written there.
+-- The tables' writes stand beside the plan's: the same places in the same order, each with the word for what is written
+-- there.
 use Prim.Native.Nat.{ℕ, zero, suc, _+_, _<_}
 use native.Mathlib.Numerals.{add-one}
 use native.Mathlib.Omega.{arith}

@@ -1,5 +1,6 @@
--- The inputs determine the answer and every lent word: for each public function, any two results that its contract allows
--- are equal. Each line speaks of the contract as the checker reads it (`Reads.Post`), so that none can drift from its function.
+-- The inputs determine the answer and every lent word: for each public function, any two results that its contract
+-- allows are equal. Each line speaks of the contract as the checker reads it (`Reads.Post`), so that none can drift
+-- from its function.
 use mathlib.Core.Path.{refl}
 use Rattle.words.proofs.Settled.{determined, Settled}
 use Rattle.tables.proofs.table

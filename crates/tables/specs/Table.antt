@@ -1,4 +1,5 @@
--- The answer for every address at once: two tables beside RAM, which a replay writes at the same places, in the same order.
+-- The answer for every address at once: two tables beside RAM, which a replay writes at the same places, in the same
+-- order.
 use Prim.Native.Nat.{ℕ, _+_}
 use mathlib.Core.Bool.{cond}
 use mathlib.Core.List.{List, [], _∷_, _++_}
@@ -51,7 +52,8 @@ markWrites f s p =
 unfoldable pub marksIn : (Part → ℕ) → Settings → Heard → State → List Write
 marksIn f s h x = cond (eqb (refusalFor s h x) 0) (markWrites f s (planFor s (h .value) x)) []
 
--- what stands after some records: RAM, for each address the number of the last record that wrote it and its mark, where the replay stands
+-- what stands after some records: RAM, for each address the number of the last record that wrote it and its mark, where
+-- the replay stands
 pub record Tables : Type 0 where
   pub ram : List ℕ
   pub numbers : List ℕ

@@ -27,7 +27,8 @@ use words::number::ADDRESS_BEYOND;
 use words::remembered::Remembered;
 use words::settings::Settings;
 
-// What stands between two parts of a trace, beside RAM and the tables: what is remembered, and the number of the last record.
+// What stands between two parts of a trace, beside RAM and the tables: what is remembered, and the number of the last
+// record.
 pub struct Filling {
     pub remembered: Remembered,
     pub number: u64,
@@ -182,8 +183,8 @@ fn fill_all(
     w
 }
 
-// A part of a trace: RAM is replayed where it is lent, and the tables go on from what they hold, all zero at first. A table that is
-// shorter than RAM is filled as far as it reaches. A refusal changes nothing.
+// A part of a trace: RAM is replayed where it is lent, and the tables go on from what they hold, all zero at first. A
+// table that is shorter than RAM is filled as far as it reaches. A refusal changes nothing.
 pub fn fill(
     ram: &mut [u16],
     numbers: &mut [u64],

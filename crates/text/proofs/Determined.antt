@@ -1,6 +1,6 @@
--- The inputs determine the answer: for each public function, any two results that its contract allows are equal, and so are any
--- two last values of each lent word. Each line speaks of the contract as the checker reads it (`Reads.Post`), so that none can
--- drift from its function.
+-- The inputs determine the answer: for each public function, any two results that its contract allows are equal, and so
+-- are any two last values of each lent word. Each line speaks of the contract as the checker reads it (`Reads.Post`),
+-- so that none can drift from its function.
 use Rattle.words.proofs.Settled.{determined, Settled}
 use Rattle.text.proofs.line
 use Rattle.text.proofs.text

@@ -26,8 +26,8 @@ startText number refusal = decimalText number ++ column (decimalText refusal)
 unfoldable pub threeWords : ℕ → ℕ → ℕ → List ℕ
 threeWords x y z = column (hexText x) ++ column (hexText y) ++ column (hexText z)
 
--- "Columns: record, number, block status, the cell's pointer before and after, status or "none", data words sent, interrupt
--- word."
+-- "Columns: record, number, block status, the cell's pointer before and after, status or "none", data words sent,
+-- interrupt word."
 unfoldable pub acceptedLine : ℕ → Answer → List ℕ
 acceptedLine number a =
     startText number (a .number)
@@ -41,8 +41,8 @@ acceptedLine number a =
 unfoldable pub refusedLine : ℕ → ℕ → List ℕ
 refusedLine number refusal = startText number refusal ++ newline
 
--- a record's line: its place, "number, block status, the cell's pointer before and after, status or "none", data words sent, interrupt
--- word", or of a refused one the number alone
+-- a record's line: its place, "number, block status, the cell's pointer before and after, status or "none", data words
+-- sent, interrupt word", or of a refused one the number alone
 unfoldable pub lineOf : ℕ → Answer → List ℕ
 lineOf number a = cond (eqb (a .number) 0) (acceptedLine number a) (refusedLine number (a .number))
 

@@ -1,5 +1,5 @@
-// Text into a lent buffer. A byte past the buffer's end is dropped, as in the definition; where the first one is, nothing is
-// put, so that no place is ever counted past the last number.
+// Text into a lent buffer. A byte past the buffer's end is dropped, as in the definition; where the first one is,
+// nothing is put, so that no place is ever counted past the last number.
 ghost use mathlib.Core.Path.{_≡_};
 ghost use Prim.Native.Nat.{_≤_, _<_, _^_};
 ghost use lib.ListN.{set};

@@ -37,8 +37,8 @@ unfoldable pub programOutput : List ℕ → List ℕ
 programOutput input =
     cond (ltb (length input) 8192) (imageLine (length input)) (traceText (imageRam (take 8192 input)) (drop 8192 input))
 
--- what a program writes that refills a buffer, a whole number of records each time, until the input ends with a shorter rest:
--- each refill's lines, and after the rest the last lines
+-- what a program writes that refills a buffer, a whole number of records each time, until the input ends with a shorter
+-- rest: each refill's lines, and after the rest the last lines
 unfoldable pub written : List (List ℕ) → List ℕ → Walk → List ℕ
 written [] rest w = textToEnd rest (anew w)
 written (full ∷ fulls) rest w =

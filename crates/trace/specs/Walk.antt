@@ -1,5 +1,5 @@
--- Walking a trace: message by message over its whole records. "Walking a trace hands on the next 80 bytes from the middle of
--- what was read".
+-- Walking a trace: message by message over its whole records. "Walking a trace hands on the next 80 bytes from the
+-- middle of what was read".
 use Prim.Native.Nat.{ℕ, zero, suc, _+_, _*_, _/_, _%_, _^_}
 use mathlib.Core.Path.{_≡_}
 use mathlib.Core.List.{List, [], _++_}
@@ -60,7 +60,8 @@ anew w = record { state = w .state; number = w .number; text = [] }
 abbrev pub walkedOf : Walk → Walked
 walkedOf w = record { remembered = w .state .remembered; number = w .number; used = length (w .text) }
 
--- one record's walk, with its line at a place of the lent buffer `room`: every lent word afterwards, and what is handed back
+-- one record's walk, with its line at a place of the lent buffer `room`: every lent word afterwards, and what is handed
+-- back
 pub record Leaves (w : Walk) (room : List ℕ) (at : ℕ) (ram reply out : List ℕ) (walked : Walked) : Type 0 where
   pub state : stateOf ram reply (walked .remembered) ≡ w .state
   pub line : Put room at (w .text) out (walked .used)

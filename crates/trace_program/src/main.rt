@@ -1,7 +1,7 @@
 // Reads a RAM image and a trace from standard input, and prints a line for each record.
 //
-// Thin: what is printed is settled in the library. A refill is a whole number of records, so none is split, and all lines of a
-// refill are written at once.
+// Thin: what is printed is settled in the library. A refill is a whole number of records, so none is split, and all
+// lines of a refill are written at once.
 
 ghost use Prim.Native.Nat.{_≤_};
 ghost use lib.ListN.{length};
@@ -15,8 +15,8 @@ use words::remembered::Remembered;
 use words::remembered::nothing_remembered;
 use words::settings::program_settings;
 
-// Where the walk stands after a refill: how many bytes are left over, whether nothing failed so far, and whether the input may go
-// on.
+// Where the walk stands after a refill: how many bytes are left over, whether nothing failed so far, and whether the
+// input may go on.
 struct Standing {
     remembered: Remembered,
     number: u64,
@@ -32,7 +32,8 @@ fn print_all(out: &[u8], used: usize, well: bool) -> bool
     print(out, used, well)
 }
 
-// Fills the buffer, walks its whole records and writes their lines. A short fill is the end of the input, or reading failed.
+// Fills the buffer, walks its whole records and writes their lines. A short fill is the end of the input, or reading
+// failed.
 fn refill(
     ram: &mut [u16],
     reply: &mut [u16],
@@ -65,8 +66,8 @@ fn refill(
     }
 }
 
-// A proved loop has to end, and nothing says that an input does. So it counts down from a number that no run uses up. No end
-// line follows where reading or writing failed.
+// A proved loop has to end, and nothing says that an input does. So it counts down from a number that no run uses up.
+// No end line follows where reading or writing failed.
 fn run(ram: &mut [u16], reply: &mut [u16], buffer: &mut [u8], out: &mut [u8])
     requires { ⌜ (length (now buffer) ≤ length (now out)) × (100 ≤ length (now out)) ⌝ }
 {

@@ -1,7 +1,7 @@
--- The inputs determine the answer: for each public function, any two results that its contract allows are equal, and so are any
--- two last values of each lent word. Each line speaks of the contract as the checker reads it (`Reads.Post`), so that none can
--- drift from its function. Where a parameter or the result is a `View` the checker makes no such reading: those three stand at the
--- end, and a line says what the contract is, as the checker has it.
+-- The inputs determine the answer: for each public function, any two results that its contract allows are equal, and so
+-- are any two last values of each lent word. Each line speaks of the contract as the checker reads it (`Reads.Post`),
+-- so that none can drift from its function. Where a parameter or the result is a `View` the checker makes no such
+-- reading: those three stand at the end, and a line says what the contract is, as the checker has it.
 use Prim.Native.Nat.{ℕ}
 use mathlib.Core.Path.{_≡_, refl}
 use mathlib.Core.List.{List}

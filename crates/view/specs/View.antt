@@ -1,5 +1,5 @@
--- A view of a trace: the caller's bytes and a place in them. "with fewer than 80 bytes after its place it gives none and the
--- place stays"
+-- A view of a trace: the caller's bytes and a place in them. "with fewer than 80 bytes after its place it gives none
+-- and the place stays"
 use Prim.Native.Nat.{ℕ, _+_}
 use mathlib.Core.Bool.{Bool, true, false, cond}
 use mathlib.Core.List.{List}

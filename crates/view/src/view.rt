@@ -1,5 +1,5 @@
-// A view that holds the caller's trace and a place in it. `next` takes it apart and calls `take_at` on the slice and the number,
-// since a struct that holds a reference is proved by hand.
+// A view that holds the caller's trace and a place in it. `next` takes it apart and calls `take_at` on the slice and
+// the number, since a struct that holds a reference is proved by hand.
 ghost use mathlib.Core.Path.{_≡_};
 ghost use Rattle.view.specs.View.{hasRecord, noneAt, takenAt};
 use layout::reader::Reading;

@@ -1,4 +1,5 @@
--- A replay and a run: what stands in the reply buffer plays no part in what a record writes, so RAM and what is remembered are the run's.
+-- A replay and a run: what stands in the reply buffer plays no part in what a record writes, so RAM and what is
+-- remembered are the run's.
 use Prim.Native.Nat.{ℕ}
 use mathlib.Core.Path.{_≡_, _∙_}
 use mathlib.Core.Logic.{⊎-elim}

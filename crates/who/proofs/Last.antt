@@ -1,5 +1,5 @@
--- The last write of a list that names an address: where it is none, in lists one after the other, in a row of writes; and the word that
--- it leaves.
+-- The last write of a list that names an address: where it is none, in lists one after the other, in a row of writes;
+-- and the word that it leaves.
 use Prim.Native.Nat.{ℕ, zero, suc, _+_, _-_, _<_}
 use native.Mathlib.Omega.{arith}
 use mathlib.Core.Path.{_≡_, refl, _∙_}

@@ -1,5 +1,5 @@
--- One record: refused by its form or by its command, or carried out by its plan. What the code tests and works out in turn is what the
--- definition says.
+-- One record: refused by its form or by its command, or carried out by its plan. What the code tests and works out in
+-- turn is what the definition says.
 use Prim.Native.Nat.{ℕ}
 use native.Mathlib.Omega.{arith}
 use mathlib.Core.Path.{_≡_, sym, ap, _∙_}

@@ -38,7 +38,8 @@ noneWrites s a x (h ∷ hs) = namesNot a (writesIn s h x) × noneWrites s a (ste
 abbrev pub wordAt : List Write → ℕ → ℕ
 wordAt ws place = getD (map (λ w. w .word) ws) place 0
 
--- The record that an answer names, among records that a terminal in the state x takes one after the other, n records after the first.
+-- The record that an answer names, among records that a terminal in the state x takes one after the other, n records
+-- after the first.
 pub record Named (s : Settings) (a : ℕ) (x : State) (n : ℕ) (hs : List Heard) (o : Origin) : Type 0 where
   pub earlier : List Heard
   pub it : Heard
@@ -72,8 +73,8 @@ pub record Answered (s : Settings) (a : ℕ) (hs : List Heard) (image : List ℕ
   pub number : valuesOf (asked s a hs image .at .who) .number ≡ whoRefusal (length image) s a
   -- where none holds, lent RAM ends as the records leave it
   pub replayed : whoRefusal (length image) s a ≡ 0 → asked s a hs image .ram ≡ run s hs (terminalWith image) .ram
-  -- "the number of the last record whose list of writes includes that address, with its cell and its place in the message, or that it
-  -- was a stack, pointer .. write"
+  -- "the number of the last record whose list of writes includes that address, with its cell and its place in the
+  -- message, or that it was a stack, pointer .. write"
   pub named :
       (o : Origin) →
       whoRefusal (length image) s a ≡ 0 →

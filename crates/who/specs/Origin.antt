@@ -26,8 +26,8 @@ unfoldable pub lastPlace : ℕ → List Write → ℕ
 lastPlace a [] = 0
 lastPlace a (w ∷ ws) = cond (eqb (lastPlace a ws) 0) (bitOf (eqb a (w .at))) (suc (lastPlace a ws))
 
--- what the write at a place of the list is: "stored words, the lookup pointer only where rule 5 moves or flips it with k > 0, four
--- stack words, the stack pointer"
+-- what the write at a place of the list is: "stored words, the lookup pointer only where rule 5 moves or flips it with
+-- k > 0, four stack words, the stack pointer"
 unfoldable pub partAt : Deed → ℕ → Part
 partAt d place =
     cond (leb place (d .stored)) (Data place)
@@ -41,7 +41,7 @@ written number cell part = Written (record { number = number; cell = cell; part 
 unfoldable pub whoAt : Deed → ℕ → ℕ → Who → Who
 whoAt d number place before = cond (eqb place 0) before (written number (d .cell) (partAt d place))
 
--- the answer after one record more: "the number of the last record whose list of writes includes that address, with its cell and its
--- place in the message, or that it was a stack, pointer .. write"
+-- the answer after one record more: "the number of the last record whose list of writes includes that address, with its
+-- cell and its place in the message, or that it was a stack, pointer .. write"
 unfoldable pub whoNext : Settings → ℕ → Heard → State → ℕ → Who → Who
 whoNext s a h x number before = whoAt (planFor s (h .value) x .deed) number (lastPlace a (writesIn s h x)) before

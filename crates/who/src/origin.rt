@@ -86,8 +86,8 @@ fn data_word(w: Window, n: u16, address: u16) -> u16
     }
 }
 
-// Who put the word at an address where it is, after the message of a plan. The parts of the list of writes are asked from its last to
-// its first, so that the last write that names the address is found without walking the list.
+// Who put the word at an address where it is, after the message of a plan. The parts of the list of writes are asked
+// from its last to its first, so that the last write that names the address is found without walking the list.
 pub(crate) fn who_wrote(s: Settings, p: Plan, address: u16, number: u64, before: Who) -> Who
     requires { ⌜ p .deed .window .offset ≤ p .deed .window .size ⌝ }
     ensures { λ r. ⌜ r ≡ whoWrote s p address number before ⌝ }

@@ -12,7 +12,8 @@ use words::remembered::Remembered;
 use words::remembered::nothing_remembered;
 use words::settings::Settings;
 
-// What stands between two parts of a trace, beside RAM: what is remembered, the number of the last record, and the answer so far.
+// What stands between two parts of a trace, beside RAM: what is remembered, the number of the last record, and the
+// answer so far.
 pub struct Standing {
     pub remembered: Remembered,
     pub number: u64,
@@ -72,7 +73,8 @@ fn replay_all(ram: &mut [u16], s: Settings, address: u16, at: Standing, trace: &
     w
 }
 
-// A part of a trace: RAM is replayed where it is lent, and the answer so far goes on. A refusal is the answer, and changes nothing else.
+// A part of a trace: RAM is replayed where it is lent, and the answer so far goes on. A refusal is the answer, and
+// changes nothing else.
 pub fn go_on(ram: &mut [u16], s: Settings, address: u16, at: Standing, trace: &[u8]) -> Standing
     ensures { λ r. ⌜ replayOf (now (ram .exit)) r ≡ goneOn s address (heardIn (now (trace .entry))) (replayOf (now (ram .entry)) at) ⌝ }
 {

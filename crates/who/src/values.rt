@@ -4,8 +4,8 @@ ghost use Rattle.who.specs.Values.{partKind, partPlace, valuesOf};
 use crate::origin::Part;
 use crate::origin::Who;
 
-// The number that refuses, or 0; then the number of the last record that wrote there, or 0 where the word is as in the image; what it wrote,
-// the cell of its message, and the place of the word.
+// The number that refuses, or 0; then the number of the last record that wrote there, or 0 where the word is as in the
+// image; what it wrote, the cell of its message, and the place of the word.
 pub struct Values {
     pub number: u16,
     pub last: u64,

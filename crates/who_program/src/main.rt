@@ -1,8 +1,9 @@
-// Reads an address, a RAM image and a trace from standard input, and prints who put the word at the address where it is.
+// Reads an address, a RAM image and a trace from standard input, and prints who put the word at the address where it
+// is.
 //
-// The input is the address, four hexadecimal digits and a newline; then what the trace program reads, 8,192 bytes of image and the
-// records. Where the first line is no address, `address` is printed and nothing else. Thin: what is printed is settled in the library.
-// A refill is a whole number of records, so none is split.
+// The input is the address, four hexadecimal digits and a newline; then what the trace program reads, 8,192 bytes of
+// image and the records. Where the first line is no address, `address` is printed and nothing else. Thin: what is
+// printed is settled in the library. A refill is a whole number of records, so none is split.
 use streams::input::fill;
 use streams::output::print;
 use trace::output::load_image;
@@ -34,8 +35,8 @@ fn refill(ram: &mut [u16], buffer: &mut [u8], address: u16, w: Replayed) -> Repl
     }
 }
 
-// A proved loop has to end, and nothing says that an input does. So it counts down from a number that no run uses up. Nothing is
-// printed where reading failed.
+// A proved loop has to end, and nothing says that an input does. So it counts down from a number that no run uses up.
+// Nothing is printed where reading failed.
 fn replay(ram: &mut [u16], buffer: &mut [u8], out: &mut [u8], address: u16) {
     let at = begin();
     let mut w = Replayed {

@@ -1,5 +1,5 @@
--- Whether two runs of words share one: the test is symmetric, and says no exactly where no address lies in both. An address
--- lies in a window or outside.
+-- Whether two runs of words share one: the test is symmetric, and says no exactly where no address lies in both. An
+-- address lies in a window or outside.
 use Prim.Native.Nat.{ℕ, _+_, _≤_, _<_}
 use native.Mathlib.Omega.{arith}
 use mathlib.Core.Path.{_≡_}

@@ -1,5 +1,5 @@
--- Wrapping inside a window, once over the size: a place lies in its window, places in a row differ, and the place after k
--- agrees with the rollover test. Then the blocks that are aligned, the single window and the double one.
+-- Wrapping inside a window, once over the size: a place lies in its window, places in a row differ, and the place after
+-- k agrees with the rollover test. Then the blocks that are aligned, the single window and the double one.
 use Prim.Native.Nat.{ℕ, _+_, _-_, _*_, _/_, _%_, _≤_, _<_}
 use native.Mathlib.Nat.{mod-lt, mod-le, mod-eq-of-lt, mod-eq-sub-mod, mod-add-mod, div-add-mod, mul-add-mod-self-left}
 use native.Mathlib.Omega.{arith}

@@ -12,8 +12,8 @@ pub struct Window {
     pub offset: u16,
 }
 
-// The remainder; x itself where n is 0, as in the definitions. A place passes a window's end once at most: the first two cases
-// are all that a sound message meets, and need no division.
+// The remainder; x itself where n is 0, as in the definitions. A place passes a window's end once at most: the first
+// two cases are all that a sound message meets, and need no division.
 fn remainder(x: usize, n: usize) -> usize
     ensures { λ r. ⌜ r ≡ x % n ⌝ }
 {

@@ -1,5 +1,5 @@
--- The order of refusals: when no number refuses, and when a number is the first that does. The numbers of messages, check and
--- label rest on these laws: "0 is done. No other case is refused."
+-- The order of refusals: when no number refuses, and when a number is the first that does. The numbers of messages,
+-- check and label rest on these laws: "0 is done. No other case is refused."
 use Prim.Native.Nat.{ℕ, _≤_}
 use native.Mathlib.Omega.{arith}
 use mathlib.Core.Path.{_≡_, refl, sym, ap, _∙_}

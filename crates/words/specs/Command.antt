@@ -1,4 +1,5 @@
--- The command word. "Command word: bits 15-11 RT address, 10 transmit, 9-5 subaddress, 4-0 word count, where 0 means 32."
+-- The command word. "Command word: bits 15-11 RT address, 10 transmit, 9-5 subaddress, 4-0 word count, where 0 means
+-- 32."
 use Prim.Native.Nat.{ℕ, _/_, _%_}
 use mathlib.Core.Bool.{Bool, cond, _||_}
 use lib.Dec.{eqb}

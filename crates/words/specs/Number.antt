@@ -1,5 +1,5 @@
--- The numbers that refuse, by name: the table "Numbers that refuse", in its order, and then those of later requests. `src/number.rt` has
--- the same names for the code.
+-- The numbers that refuse, by name: the table "Numbers that refuse", in its order, and then those of later requests.
+-- `src/number.rt` has the same names for the code.
 use Prim.Native.Nat.{ℕ}
 
 -- "RAM is not 4,096 words"

@@ -1,4 +1,5 @@
--- The first number that refuses. "Tested in this order; an entry point tests exactly those about things that it is given."
+-- The first number that refuses. "Tested in this order; an entry point tests exactly those about things that it is
+-- given."
 use Prim.Native.Nat.{ℕ}
 use mathlib.Core.Bool.{Bool, cond}
 use mathlib.Core.List.{List, [], _∷_}

@@ -31,8 +31,8 @@ isBroadcast s command = s .broadcast && eqb (addressOf command) 31
 unfoldable pub isNotOurs : Settings → ℕ → Bool
 isNotOurs s command = not (isOwn s command) && not (isBroadcast s command)
 
--- "broadcast cells are read only if separate-broadcast is on", and with broadcast off "broadcast cells are not read by the
--- whole-area check"
+-- "broadcast cells are read only if separate-broadcast is on", and with broadcast off "broadcast cells are not read by
+-- the whole-area check"
 unfoldable pub hasBroadcastCells : Settings → Bool
 hasBroadcastCells s = s .broadcast && s .«separate_broadcast»
 

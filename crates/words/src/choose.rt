@@ -1,5 +1,6 @@
-// Choices as functions of values. A chain of `&&` and `if` on numbers splits a proof into one case for each way through it;
-// a call whose result is one equation keeps it a straight line. They cost nothing in the built program: all are inlined.
+// Choices as functions of values. A chain of `&&` and `if` on numbers splits a proof into one case for each way through
+// it; a call whose result is one equation keeps it a straight line. They cost nothing in the built program: all are
+// inlined.
 ghost use mathlib.Core.Path.{_≡_};
 ghost use mathlib.Core.Bool.{cond, _&&_, _||_, not};
 ghost use Prim.Native.Nat.{min};

@@ -1,4 +1,5 @@
--- `put_pairs` meets its contract. The loop's invariant: the pairs whose lower number is below `lower` stand in the slice.
+-- `put_pairs` meets its contract. The loop's invariant: the pairs whose lower number is below `lower` stand in the
+-- slice.
 use borrow.Author.Needs.{needs}
 use native.Mathlib.Omega.{arith}
 use Prim.Native.Nat.{_-_, _≤_}

@@ -1,4 +1,5 @@
--- `lasts_zero` meets its contract. The loop's invariant: `ok` tells whether those of the first `i` words that come after `count` are zero.
+-- `lasts_zero` meets its contract. The loop's invariant: `ok` tells whether those of the first `i` words that come
+-- after `count` are zero.
 use borrow.Author.Needs.{needs}
 use native.Mathlib.Omega.{arith}
 use Prim.Native.Nat.{_≤_, _-_, max}

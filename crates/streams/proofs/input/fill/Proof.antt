@@ -1,5 +1,5 @@
--- `fill` is safe and ends, and what it counts stands in the buffer. The loop's invariant: the count is within the buffer, which
--- keeps its length.
+-- `fill` is safe and ends, and what it counts stands in the buffer. The loop's invariant: the count is within the
+-- buffer, which keeps its length.
 use Prim.Native.Nat.{_-_, _≤_}
 use mathlib.Core.Path.{_≡_}
 use lib.ListN.{length}

@@ -1,4 +1,5 @@
--- `put_digits` meets its contract. The loop's invariant: with the `i` digits that are left, all would stand in the buffer.
+-- `put_digits` meets its contract. The loop's invariant: with the `i` digits that are left, all would stand in the
+-- buffer.
 use Prim.Native.Nat.{_≤_}
 use native.Mathlib.Omega.{arith}
 use mathlib.Core.Path.{_≡_, refl, _∙_}

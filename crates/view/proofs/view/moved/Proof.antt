@@ -1,5 +1,5 @@
--- `moved` meets its contract: a walk of its MIR, by hand. A view is made anew of the slice that the one passed holds, and
--- another place.
+-- `moved` meets its contract: a walk of its MIR, by hand. A view is made anew of the slice that the one passed holds,
+-- and another place.
 use mathlib.Core.Path.{refl}
 use Prim.Native.Nat.{ℕ, _<_, _^_}
 use mathlib.Core.List.{[], _∷_}

@@ -1,7 +1,7 @@
--- `next` meets its contract: a walk of its MIR, by hand. The view is taken apart, and `take_at` is called on the slice and the
--- place. All that the proof knows of `take_at` is that it meets its contract.
--- The view is Copy: what it owns is had twice, one copy is kept whole for the exit, and of the other what the slice owns goes to
--- the callee, beside the lifetime's token, which comes back.
+-- `next` meets its contract: a walk of its MIR, by hand. The view is taken apart, and `take_at` is called on the slice
+-- and the place. All that the proof knows of `take_at` is that it meets its contract. The view is Copy: what it owns is
+-- had twice, one copy is kept whole for the exit, and of the other what the slice owns goes to the callee, beside the
+-- lifetime's token, which comes back.
 use mathlib.Core.Path.{_≡_, refl}
 use Prim.Native.Nat.{_<_, _^_}
 use mathlib.Core.List.{[], _∷_}

@@ -1,4 +1,5 @@
--- `remainder` meets its contract: below n it is the number itself, below twice n what is over, and by 0 the number itself.
+-- `remainder` meets its contract: below n it is the number itself, below twice n what is over, and by 0 the number
+-- itself.
 use borrow.Author.Needs.{needs}
 use mathlib.Core.Path.{sym, _∙_}
 use native.Mathlib.Nat.{mod-zero, mod-eq-of-lt, mod-eq-sub-mod}
