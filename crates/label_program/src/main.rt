@@ -1,6 +1,8 @@
 // Reads a RAM image from standard input, and prints the label of the whole area with the trace program's settings.
 //
 // Thin: what is printed is settled in the library. The buffer has room for the label of any image.
+ghost use Prim.Native.Nat.{_≤_};
+ghost use lib.ListN.{length};
 use label_text::printed::put_area_text;
 use streams::input::fill;
 use streams::output::print;
@@ -9,7 +11,9 @@ use trace::output::put_image_line;
 use words::settings::program_settings;
 
 // The label of a whole image, or the line of one that is cut short. Answers the length of the text.
-fn put_text(ram: &mut [u16], out: &mut [u8], image: &[u8], got: usize) -> usize {
+fn put_text(ram: &mut [u16], out: &mut [u8], image: &[u8], got: usize) -> usize
+    ensures { λ r. ⌜ r ≤ 350000 ⌝ }
+{
     if got < image.len() {
         return put_image_line(out, got);
     }
@@ -17,14 +21,23 @@ fn put_text(ram: &mut [u16], out: &mut [u8], image: &[u8], got: usize) -> usize 
     put_area_text(out, ram, program_settings())
 }
 
+// Prints text that is all in the buffer.
+fn print_all(out: &[u8], used: usize)
+    requires { ⌜ used ≤ length (now out) ⌝ }
+{
+    print(out, used, true);
+}
+
 // Nothing is printed where reading failed.
-fn label(ram: &mut [u16], out: &mut [u8], image: &mut [u8]) {
+fn label(ram: &mut [u16], out: &mut [u8], image: &mut [u8])
+    requires { ⌜ 350000 ≤ length (now out) ⌝ }
+{
     let filled = fill(image);
     if filled.failed {
         return;
     }
     let used = put_text(ram, out, image, filled.got);
-    print(out, used, true);
+    print_all(out, used);
 }
 
 fn main() {

@@ -76,9 +76,10 @@ refused-most : (number : ℕ) → length (refusedLine number) ≤ 53
 unfolding refusedLine
 refused-most number = simp length-append (omega (arith, decimal-most number, reason-most number))
 
-pub area-most : (ram : List ℕ) (s : Settings) → length (areaText ram s) < 2 ^ 64
+-- a buffer of so many bytes has room for the label of any area
+pub area-room : (ram : List ℕ) (s : Settings) → length (areaText ram s) ≤ 350000
 unfolding areaText areaLines
-area-most ram s =
+area-room ram s =
     let pairs = meetingPairs ram s in
     ⊎-elim (λ (e : eqb (groundRefusal ram s) 0 ≡ true). rw e (simp length-append
     (omega (
@@ -90,6 +91,9 @@ area-most ram s =
     ))))
     (λ (e : eqb (groundRefusal ram s) 0 ≡ false). rw e (omega (arith, refused-most (groundRefusal ram s))))
     (yes-or-no (eqb (groundRefusal ram s) 0))
+
+pub area-most : (ram : List ℕ) (s : Settings) → length (areaText ram s) < 2 ^ 64
+area-most ram s = omega (arith, area-room ram s)
 
 pub cell-text-most : (ram : List ℕ) (s : Settings) (cell : ℕ) → length (oneCellText ram s cell) < 2 ^ 64
 unfolding oneCellText cellLines
