@@ -22,7 +22,7 @@ use Rattle.text.proofs.Lines.{named-most}
 use Rattle.label_text.specs.Wording.{kindName, cellText, markText, markedText, meetLine, pairLine, alsoText, unsoundLine, reasonText, refusedLine}
 use Rattle.label_text.specs.Printed.{pairsName, cellsName, areaLines, areaText, sharerLine, cellLines, oneCellText}
 
-kind-most : (kind : Kind) → length (kindName kind) ≤ 9
+pub kind-most : (kind : Kind) → length (kindName kind) ≤ 9
 kind-most Receive = omega arith
 kind-most Transmit = omega arith
 kind-most Broadcast = omega arith
@@ -63,7 +63,7 @@ unsound-line-most [] h = omega arith
 unsound-line-most (x ∷ xs) h = simp length-append (omega (arith, cell-most x, lines-most alsoText 32 also-most xs))
 
 -- the longer of two texts
-either-most : (b : Bool) (xs ys : List ℕ) (n : ℕ) → length xs ≤ n → length ys ≤ n → length (cond b xs ys) ≤ n
+pub either-most : (b : Bool) (xs ys : List ℕ) (n : ℕ) → length xs ≤ n → length ys ≤ n → length (cond b xs ys) ≤ n
 either-most true xs ys n h k = h
 either-most false xs ys n h k = k
 
@@ -75,7 +75,7 @@ reason-most number =
     (either-most (eqb number unsoundStack) _ _ 22 (omega arith)
     (either-most (eqb number addressBeyond) _ _ 22 (omega arith) (omega arith))))
 
-refused-most : (number : ℕ) → length (refusedLine number) ≤ 53
+pub refused-most : (number : ℕ) → length (refusedLine number) ≤ 53
 unfolding refusedLine
 refused-most number = simp length-append (omega (arith, decimal-most number, reason-most number))
 
