@@ -93,12 +93,12 @@ fn who(ram: &mut [u16], line: &mut [u8], image: &mut [u8], buffer: &mut [u8], ou
     print(b"address\n", 8, true);
 }
 
-// The buffer holds 819 records; a line is shorter than 100 bytes.
+// The buffer holds 819 records; a line has at most 103 bytes (`line-room` of who_text).
 fn main() {
     let mut ram = [0u16; 4096];
     let mut line = [0u8; 5];
     let mut image = [0u8; 8192];
     let mut buffer = [0u8; 65520];
-    let mut out = [0u8; 100];
+    let mut out = [0u8; 103];
     who(&mut ram, &mut line, &mut image, &mut buffer, &mut out);
 }
