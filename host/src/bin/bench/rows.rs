@@ -162,7 +162,9 @@ fn labels() -> [Row; 6] {
     ]
 }
 
-/// The same fifty records without the question who put a word where it is, and with it.
+/// The same fifty records without the question who put a word where it is, and
+/// with it; and many more for tables of every address, which are made anew
+/// each time.
 fn origins() -> [Row; 3] {
     let some = [
         record_bytes(0x2864, 4),
@@ -180,9 +182,9 @@ fn origins() -> [Row; 3] {
             Work::Who(0x0402, records.clone()),
         ),
         row(
-            "50 records, who wrote each address",
+            "1000 records, who wrote each address",
             CIRCLE,
-            Work::WhoAll(records),
+            Work::WhoAll(records.repeat(20)),
         ),
     ]
 }
