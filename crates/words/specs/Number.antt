@@ -10,7 +10,7 @@ ramLength = 1
 abbrev pub replyRoom : ℕ
 replyRoom = 2
 
--- "RT address over 30, or stack size not listed"
+-- "3 for RT address over 30 with broadcast on, over 31 with it off", or "stack size not listed"
 abbrev pub badSettings : ℕ
 badSettings = 3
 

@@ -15,7 +15,7 @@ stackSizeListed size = (eqb size 256 || eqb size 512) || (eqb size 1024 || eqb s
 abbrev pub highestAddress : Settings → ℕ
 highestAddress s = cond (s .broadcast) 30 31
 
--- refusal 3: "RT address over 30, or stack size not listed"
+-- refusal 3: RT address over the highest, "or stack size not listed"
 unfoldable pub settingsRefused : Settings → Bool
 settingsRefused s = ltb (highestAddress s) (s .address) || not (stackSizeListed (s .«stack_size»))
 

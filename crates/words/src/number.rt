@@ -4,7 +4,7 @@
 pub const RAM_LENGTH: u16 = 1;
 // 2: reply buffer under 33 words
 pub const REPLY_ROOM: u16 = 2;
-// 3: RT address over 30, or stack size not listed
+// 3: RT address over 30 (31 with broadcast off), or stack size not listed
 pub const BAD_SETTINGS: u16 = 3;
 // 4: record is not 80 bytes
 pub const RECORD_LENGTH: u16 = 4;
