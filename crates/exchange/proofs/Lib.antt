@@ -9,4 +9,3 @@ pub mod Entries
 pub mod Runs
 pub mod Theorem
 pub mod NotEmpty
-pub mod Determined

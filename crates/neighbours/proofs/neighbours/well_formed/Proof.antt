@@ -1,9 +1,9 @@
 -- `well_formed` meets its contract: the three tests of a record.
 use borrow.Author.Needs.{needs}
 use mathlib.Core.Bool.{Bool·not-not}
 use Rattle.exchange.specs.Condition.{wellFormed}
-use Rattle.exchange.proofs.neighbours.well_formed.Statement.{statement}
-use Rattle.exchange.proofs.neighbours.well_formed.Tie as tie
+use Rattle.neighbours.proofs.neighbours.well_formed.Statement.{statement}
+use Rattle.neighbours.proofs.neighbours.well_formed.Tie as tie
 
 keeps-layout-requires : tie.Need-keeps-layout-requires
 keeps-layout-requires c κs = search needs

@@ -1,8 +1,8 @@
 -- `may_exchange` meets its contract: both targets, compared.
 use borrow.Author.Needs.{needs}
 use Rattle.exchange.specs.Condition.{mayExchange}
-use Rattle.exchange.proofs.neighbours.may_exchange.Statement.{statement}
-use Rattle.exchange.proofs.neighbours.may_exchange.Tie as tie
+use Rattle.neighbours.proofs.neighbours.may_exchange.Statement.{statement}
+use Rattle.neighbours.proofs.neighbours.may_exchange.Tie as tie
 
 target-of-requires : tie.Need-target-of-requires
 target-of-requires c κs = search needs
