@@ -25,7 +25,7 @@ use Rattle.who.specs.declared.origin.Who.{Who}
 use Rattle.who.specs.declared.origin.Who.the-variants.{Refused}
 use Rattle.tables.specs.declared.table.Filling.{Filling}
 use Rattle.who.specs.Tests.{replayRefusal}
-use Rattle.who.specs.Taken.{terminalOf}
+use Rattle.who.specs.Replay.{terminalOf}
 use Rattle.tables.specs.Mark.{markOf, entryOf}
 
 -- what a table of numbers and one of marks say of an address

@@ -1,5 +1,4 @@
 pub mod Tests
-pub mod Taken
 pub mod Origin
 pub mod Values
 pub mod Placed

@@ -1,6 +1,5 @@
 // Where a word comes from, worked out from a message's plan.
 ghost use mathlib.Core.Path.{_≡_};
-ghost use Prim.Native.Nat.{_≤_, _<_};
 ghost use Rattle.who.specs.Origin.{written};
 ghost use Rattle.who.specs.Placed.{stackWord, stepsTo, dataWord, whoWrote};
 use decide::plan::Plan;
@@ -54,20 +53,24 @@ fn stack_word(pointer: u16, address: u16) -> u16
 }
 
 // How far an address of a window lies behind its pointer, wrapping.
-fn steps_to(w: Window, a: usize) -> usize
-    requires { ⌜ (w .offset ≤ w .size) × ((w .start ≤ a) × (a < 65536)) ⌝ }
-    ensures { λ r. ⌜ r ≡ stepsTo w a ⌝ }
+fn steps_to(w: Window, address: u16) -> usize
+    ensures { λ r. ⌜ r ≡ stepsTo w address ⌝ }
 {
+    let a = address as usize;
     let pointer = w.start as usize + w.offset as usize;
-    if a < pointer {
-        return a + w.size as usize - pointer;
+    if pointer <= a {
+        return a - pointer;
     }
-    a - pointer
+    let wrapped = a + w.size as usize;
+    if pointer <= wrapped {
+        wrapped - pointer
+    } else {
+        0
+    }
 }
 
 // Which of the first n words from a window's pointer on the address is, counted from 1; 0 where it is none.
 fn data_word(w: Window, n: u16, address: u16) -> u16
-    requires { ⌜ w .offset ≤ w .size ⌝ }
     ensures { λ r. ⌜ r ≡ dataWord w n address ⌝ }
 {
     let a = address as usize;
@@ -78,7 +81,7 @@ fn data_word(w: Window, n: u16, address: u16) -> u16
     if start + w.size as usize <= a {
         return 0;
     }
-    let steps = steps_to(w, a);
+    let steps = steps_to(w, address);
     if steps < n as usize {
         (steps + 1) as u16
     } else {
@@ -88,8 +91,7 @@ fn data_word(w: Window, n: u16, address: u16) -> u16
 
 // Who put the word at an address where it is, after the message of a plan. The parts of the list of writes are asked
 // from its last to its first, so that the last write that names the address is found without walking the list.
-pub(crate) fn who_wrote(s: Settings, p: Plan, address: u16, number: u64, before: Who) -> Who
-    requires { ⌜ p .deed .window .offset ≤ p .deed .window .size ⌝ }
+pub fn who_wrote(s: Settings, p: Plan, address: u16, number: u64, before: Who) -> Who
     ensures { λ r. ⌜ r ≡ whoWrote s p address number before ⌝ }
 {
     let deed = p.deed;

@@ -1,4 +1,5 @@
 -- `steps_to` meets its contract.
+use native.Mathlib.Omega.{arith}
 use borrow.Author.Needs.{needs}
 use borrow.Author.Tests.{lt-ltb, le-ltb}
 use Rattle.who.specs.Placed.{stepsTo}
@@ -14,22 +15,23 @@ cast-pointer-2 c = search needs
 add-pointer : tie.Need-add-pointer
 add-pointer c = search needs
 
-cast-result : tie.Need-cast-result
-cast-result c = search needs
-
-add-result : tie.Need-add-result
-add-result c = search needs
-
-sub-result : tie.Need-sub-result
-sub-result c = search needs
-
 returns : tie.Need-returns
 unfolding stepsTo
-returns c = rw (lt-ltb _ _ (c .before .if1 .taken))
+returns c = rw (le-ltb _ _ (c .if1 .taken))
+
+cast-wrapped : tie.Need-cast-wrapped
+cast-wrapped c = search needs
+
+add-wrapped : tie.Need-add-wrapped
+add-wrapped c = search needs
 
 returns-2 : tie.Need-returns-2
 unfolding stepsTo
-returns-2 c = rw (le-ltb _ _ (c .if1 .left))
+returns-2 c = rw (lt-ltb _ _ (c .before .before .if1 .left))
+
+returns-3 : tie.Need-returns-3
+unfolding stepsTo
+returns-3 c = rw (lt-ltb _ _ (c .before .before .if1 .left)) (omega arith)
 
 pub steps-to-spec : {M : Type 1} → statement M
 steps-to-spec =
@@ -38,8 +40,8 @@ steps-to-spec =
     cast-pointer
     cast-pointer-2
     add-pointer
-    cast-result
-    add-result
-    sub-result
     returns
-    returns-2)
+    cast-wrapped
+    add-wrapped
+    returns-2
+    returns-3)
