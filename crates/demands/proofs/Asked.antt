@@ -12,11 +12,12 @@ use Rattle.words.specs.Refusal.{Test, firstOf}
 use Rattle.words.proofs.Basics.{yes-or-no, eq-or-ne}
 use Rattle.words.proofs.Refusals.{numbered}
 use Rattle.message.specs.Heard.{Heard}
-use Rattle.who.specs.declared.origin.Who.{Who}
-use Rattle.who.specs.declared.origin.Who.the-variants.{Refused, AsInImage, Written}
+use Rattle.origin.specs.declared.origin.Who.{Who}
+use Rattle.origin.specs.declared.origin.Who.the-variants.{Refused, AsInImage, Written}
 use Rattle.who.specs.declared.standing.Standing.{Standing}
 use Rattle.who.specs.Tests.{replayTests, replayRefusal, whoTests, whoRefusal}
-use Rattle.who.specs.Origin.{writesIn, lastPlace, whoAt, whoNext}
+use Rattle.origin.specs.Origin.{lastPlace, whoAt}
+use Rattle.who.specs.Next.{writesIn, whoNext}
 use Rattle.who.specs.Values.{valuesOf}
 use Rattle.who.specs.Replay.{Replay, replayOf, replayRecord, replay, refusedAt, goneOn, asked, terminalIn}
 use Rattle.who.proofs.Answers.{who-put-this-here}

@@ -39,8 +39,8 @@ use Rattle.message.specs.Tests.{testsFor, recordTests}
 use Rattle.message.specs.Answer.{refusedWith}
 use Rattle.message.proofs.serve
 use Rattle.trace.proofs.walk
-use Rattle.who.specs.declared.origin.Who.{Who}
-use Rattle.who.specs.declared.origin.Who.the-variants.{Refused}
+use Rattle.origin.specs.declared.origin.Who.{Who}
+use Rattle.origin.specs.declared.origin.Who.the-variants.{Refused}
 use Rattle.who.specs.declared.standing.Standing.{Standing}
 use Rattle.who.specs.Tests.{replayTests, whoTests}
 use Rattle.who.specs.Values.{valuesOf}

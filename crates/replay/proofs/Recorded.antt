@@ -22,12 +22,13 @@ use Rattle.message.proofs.Step.{target-sized}
 use Rattle.trace.specs.Walk.{nextNumber}
 use Rattle.replay.specs.declared.taken.Taken.{Taken}
 use Rattle.replay.specs.declared.taken.Taken.the-variants.{Passed, Carried}
-use Rattle.who.specs.declared.origin.Who.{Who}
+use Rattle.origin.specs.declared.origin.Who.{Who}
 use Rattle.replay.specs.Taken.{takenOf}
-use Rattle.who.specs.Origin.{writesIn, lastPlace, whoAt, whoNext}
-use Rattle.who.specs.Placed.{whoWrote}
+use Rattle.origin.specs.Origin.{lastPlace, whoAt}
+use Rattle.who.specs.Next.{writesIn, whoNext}
+use Rattle.origin.specs.Placed.{whoWrote}
 use Rattle.who.specs.Replay.{Replay, replayOf, terminalIn, replayRecord}
-use Rattle.who.proofs.Placed.{placed}
+use Rattle.origin.proofs.Placed.{placed}
 use Rattle.replay.proofs.Taking.{taken-passed, taken-carried}
 
 -- every plan's window has the pointer inside and room for its words

@@ -3,13 +3,9 @@
 -- from its function.
 use mathlib.Core.Path.{refl}
 use Rattle.words.proofs.Settled.{determined, Settled}
-use Rattle.who.proofs.origin
 use Rattle.who.proofs.standing
 use Rattle.who.proofs.tests
 use Rattle.who.proofs.values
-
-pub who-wrote-settled : Settled 0 origin.who_wrote.Kinds.ps origin.who_wrote.Kinds.r origin.who_wrote.Reads.Post
-who-wrote-settled κs a x y v w p q = (determined p q, refl)
 
 pub part-kind-settled : Settled 0 values.part_kind.Kinds.ps values.part_kind.Kinds.r values.part_kind.Reads.Post
 part-kind-settled κs a x y v w p q = (determined p q, refl)

@@ -1,5 +1,3 @@
-pub mod Last
-pub mod Placed
 pub mod Early
 pub mod Turns
 pub mod Alike

@@ -11,10 +11,10 @@ use Rattle.memory.specs.State.{State, stateOf}
 use Rattle.message.specs.Heard.{Heard, heardBytes}
 use Rattle.message.specs.Message.{step}
 use Rattle.trace.specs.Walk.{recordAt, wholeRecords, nextNumber}
-use Rattle.who.specs.declared.origin.Who.the-variants.{Refused, AsInImage}
+use Rattle.origin.specs.declared.origin.Who.the-variants.{Refused, AsInImage}
 use Rattle.who.specs.declared.standing.Standing.{Standing}
 use Rattle.who.specs.Tests.{whoRefusal}
-use Rattle.who.specs.Origin.{whoNext}
+use Rattle.who.specs.Next.{whoNext}
 
 -- the first n records of a trace, as they are heard
 unfoldable pub heardTo : List ℕ → ℕ → List Heard

@@ -23,12 +23,12 @@ use Rattle.deed.specs.declared.deed.Deed.{Deed}
 use Rattle.decide.specs.declared.plan.Plan.{Plan}
 use Rattle.carry.specs.Writes.{dataWrites, pointerWrites, descriptorOf, entryWrites, deedWrites, stackWrites, writesOf}
 use Rattle.carry.proofs.Replied.{length-writes}
-use Rattle.who.specs.declared.origin.Part.{Part}
-use Rattle.who.specs.declared.origin.Part.the-variants.{Data, Pointer, Stack, StackPointer}
-use Rattle.who.specs.declared.origin.Who.{Who}
-use Rattle.who.specs.Origin.{lastPlace, partAt, written, whoAt}
-use Rattle.who.specs.Placed.{stackWord, stepsTo, dataWord, whoWrote}
-use Rattle.who.proofs.Last.{last-none, last-first, last-second, last-one, last-other, last-row}
+use Rattle.origin.specs.declared.origin.Part.{Part}
+use Rattle.origin.specs.declared.origin.Part.the-variants.{Data, Pointer, Stack, StackPointer}
+use Rattle.origin.specs.declared.origin.Who.{Who}
+use Rattle.origin.specs.Origin.{lastPlace, partAt, written, whoAt}
+use Rattle.origin.specs.Placed.{stackWord, stepsTo, dataWord, deedWrote, whoWrote}
+use Rattle.origin.proofs.Last.{last-none, last-first, last-second, last-one, last-other, last-row}
 
 -- ---- the words of a window
 
@@ -293,7 +293,7 @@ module _ (s : Settings) (p : Plan) (v : Record) (a : ℕ) where
           (eq-or-ne (dataWord (d .window) (d .stored) a) 0)
 
       pub placed : whoWrote s p a number before ≡ whoAt d number place before
-      unfolding whoWrote
+      unfolding whoWrote deedWrote
       placed =
           let top = stackPointerPlace (s .area) in
           let lookup = lookupPlace (s .area) (d .cell) in

@@ -2,9 +2,9 @@
 use native.Mathlib.Omega.{arith}
 use borrow.Author.Needs.{needs}
 use borrow.Author.Tests.{lt-ltb, le-ltb}
-use Rattle.who.specs.Placed.{stepsTo}
-use Rattle.who.proofs.origin.steps_to.Statement.{statement}
-use Rattle.who.proofs.origin.steps_to.Tie as tie
+use Rattle.origin.specs.Placed.{stepsTo}
+use Rattle.origin.proofs.origin.steps_to.Statement.{statement}
+use Rattle.origin.proofs.origin.steps_to.Tie as tie
 
 cast-pointer : tie.Need-cast-pointer
 cast-pointer c = search needs

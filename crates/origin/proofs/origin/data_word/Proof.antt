@@ -1,9 +1,9 @@
 -- `data_word` meets its contract.
 use borrow.Author.Needs.{needs}
 use borrow.Author.Tests.{lt-ltb, le-ltb, le-leb, lt-leb}
-use Rattle.who.specs.Placed.{dataWord}
-use Rattle.who.proofs.origin.data_word.Statement.{statement}
-use Rattle.who.proofs.origin.data_word.Tie as tie
+use Rattle.origin.specs.Placed.{dataWord}
+use Rattle.origin.proofs.origin.data_word.Statement.{statement}
+use Rattle.origin.proofs.origin.data_word.Tie as tie
 
 cast-start : tie.Need-cast-start
 cast-start c = search needs

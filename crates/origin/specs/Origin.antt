@@ -3,23 +3,13 @@ use Prim.Native.Nat.{ℕ, suc, _+_, _-_}
 use mathlib.Core.Bool.{cond}
 use mathlib.Core.List.{List, [], _∷_}
 use lib.Dec.{leb, eqb}
-use Rattle.words.specs.declared.settings.Settings.{Settings}
 use Rattle.words.specs.Bits.{bitOf}
-use Rattle.memory.specs.State.{State}
 use Rattle.memory.specs.Writes.{Write}
 use Rattle.deed.specs.declared.deed.Deed.{Deed}
-use Rattle.carry.specs.Writes.{writesOf}
-use Rattle.message.specs.Heard.{Heard}
-use Rattle.message.specs.Tests.{refusalFor}
-use Rattle.message.specs.Message.{planFor}
-use Rattle.who.specs.declared.origin.Part.{Part}
-use Rattle.who.specs.declared.origin.Part.the-variants.{Data, Pointer, Stack, StackPointer}
-use Rattle.who.specs.declared.origin.Who.{Who}
-use Rattle.who.specs.declared.origin.Who.the-variants.{Written}
-
--- a record's list of writes; one that is refused writes nothing
-unfoldable pub writesIn : Settings → Heard → State → List Write
-writesIn s h x = cond (eqb (refusalFor s h x) 0) (writesOf s (planFor s (h .value) x) (h .value)) []
+use Rattle.origin.specs.declared.origin.Part.{Part}
+use Rattle.origin.specs.declared.origin.Part.the-variants.{Data, Pointer, Stack, StackPointer}
+use Rattle.origin.specs.declared.origin.Who.{Who}
+use Rattle.origin.specs.declared.origin.Who.the-variants.{Written}
 
 -- the place in a list of writes, counted from 1, of the last that names the address; 0 where none does
 unfoldable pub lastPlace : ℕ → List Write → ℕ
@@ -40,8 +30,3 @@ written number cell part = Written (record { number = number; cell = cell; part 
 -- the answer after a record whose list names the address last at this place: a later write takes an earlier one's place
 unfoldable pub whoAt : Deed → ℕ → ℕ → Who → Who
 whoAt d number place before = cond (eqb place 0) before (written number (d .cell) (partAt d place))
-
--- the answer after one record more: "the number of the last record whose list of writes includes that address, with its
--- cell and its place in the message, or that it was a stack, pointer .. write"
-unfoldable pub whoNext : Settings → ℕ → Heard → State → ℕ → Who → Who
-whoNext s a h x number before = whoAt (planFor s (h .value) x .deed) number (lastPlace a (writesIn s h x)) before

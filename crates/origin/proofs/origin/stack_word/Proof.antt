@@ -1,9 +1,9 @@
 -- `stack_word` meets its contract.
 use borrow.Author.Needs.{needs}
 use borrow.Author.Tests.{lt-ltb, le-ltb}
-use Rattle.who.specs.Placed.{stackWord}
-use Rattle.who.proofs.origin.stack_word.Statement.{statement}
-use Rattle.who.proofs.origin.stack_word.Tie as tie
+use Rattle.origin.specs.Placed.{stackWord}
+use Rattle.origin.proofs.origin.stack_word.Statement.{statement}
+use Rattle.origin.proofs.origin.stack_word.Tie as tie
 
 returns : tie.Need-returns
 unfolding stackWord

@@ -3,12 +3,14 @@ use Prim.Native.Nat.{ℕ, _+_, _-_}
 use mathlib.Core.Bool.{not, cond, _&&_}
 use lib.Dec.{ltb, leb, eqb}
 use Rattle.words.specs.declared.settings.Settings.{Settings}
+use Rattle.words.specs.declared.settings.Area.{Area}
 use Rattle.windows.specs.declared.window.Window.{Window}
 use Rattle.memory.specs.Map.{lookupPlace, stackPointerPlace}
+use Rattle.deed.specs.declared.deed.Deed.{Deed}
 use Rattle.decide.specs.declared.plan.Plan.{Plan}
-use Rattle.who.specs.declared.origin.Part.the-variants.{Data, Pointer, Stack, StackPointer}
-use Rattle.who.specs.declared.origin.Who.{Who}
-use Rattle.who.specs.Origin.{written}
+use Rattle.origin.specs.declared.origin.Part.the-variants.{Data, Pointer, Stack, StackPointer}
+use Rattle.origin.specs.declared.origin.Who.{Who}
+use Rattle.origin.specs.Origin.{written}
 
 -- which of the four words at the stack pointer the address is, counted from 1; 0 where it is none
 unfoldable pub stackWord : ℕ → ℕ → ℕ
@@ -23,12 +25,17 @@ unfoldable pub dataWord : Window → ℕ → ℕ → ℕ
 dataWord w n a =
     cond (ltb a (w .start)) 0 (cond (leb (w .start + w .size) a) 0 (cond (ltb (stepsTo w a) n) (stepsTo w a + 1) 0))
 
+-- who wrote the word, of the writes of a deed: the lookup pointer, then the words
+unfoldable pub deedWrote : Area → Deed → ℕ → ℕ → Who → Who
+deedWrote area d a number before =
+    cond (d .moves && eqb a (lookupPlace area (d .cell))) (written number (d .cell) Pointer)
+    (cond (not (eqb (dataWord (d .window) (d .stored) a) 0))
+    (written number (d .cell) (Data (dataWord (d .window) (d .stored) a)))
+    before)
+
 -- who wrote the word: the parts of the list of writes, asked from its last to its first
 unfoldable pub whoWrote : Settings → Plan → ℕ → ℕ → Who → Who
 whoWrote s p a number before =
     cond (eqb a (stackPointerPlace (s .area))) (written number (p .deed .cell) StackPointer)
     (cond (not (eqb (stackWord (p .entry .pointer) a) 0)) (written number (p .deed .cell) (Stack (stackWord (p .entry .pointer) a)))
-    (cond (p .deed .moves && eqb a (lookupPlace (s .area) (p .deed .cell))) (written number (p .deed .cell) Pointer)
-    (cond (not (eqb (dataWord (p .deed .window) (p .deed .stored) a) 0))
-    (written number (p .deed .cell) (Data (dataWord (p .deed .window) (p .deed .stored) a)))
-    before)))
+    (deedWrote (s .area) (p .deed) a number before))

@@ -14,7 +14,7 @@ use Rattle.words.proofs.BitLaws.{bit-small}
 use Rattle.memory.specs.Writes.{Write, applyWrites, writesTo}
 use Rattle.memory.proofs.Footprint.{Avoids, untouched}
 use Rattle.carry.proofs.Replied.{length-writes}
-use Rattle.who.specs.Origin.{lastPlace}
+use Rattle.origin.specs.Origin.{lastPlace}
 
 -- 0 exactly where no write names the address
 pub last-none : (a : ℕ) (ws : List Write) → Avoids a ws → lastPlace a ws ≡ 0

@@ -1,12 +1,14 @@
 // Where a word comes from, worked out from a message's plan.
 ghost use mathlib.Core.Path.{_≡_};
-ghost use Rattle.who.specs.Origin.{written};
-ghost use Rattle.who.specs.Placed.{stackWord, stepsTo, dataWord, whoWrote};
+ghost use Rattle.origin.specs.Origin.{written};
+ghost use Rattle.origin.specs.Placed.{stackWord, stepsTo, dataWord, deedWrote, whoWrote};
 use decide::plan::Plan;
+use deed::deed::Deed;
 use memory::map::lookup_table;
 use memory::map::stack_pointer_place;
 use windows::window::Window;
 use words::choose::both;
+use words::settings::Area;
 use words::settings::Settings;
 
 // What a message's write is.
@@ -89,6 +91,22 @@ fn data_word(w: Window, n: u16, address: u16) -> u16
     }
 }
 
+// Who put the word at an address where it is, of the writes of a deed: its words and its lookup pointer.
+fn deed_wrote(area: Area, d: Deed, address: u16, number: u64, before: Who) -> Who
+    ensures { λ r. ⌜ r ≡ deedWrote area d address number before ⌝ }
+{
+    let a = address as usize;
+    if both(d.moves, a == lookup_table(area) + d.cell as usize) {
+        return written_as(number, d.cell, Part::Pointer);
+    }
+    let window = d.window;
+    let data = data_word(window, d.stored, address);
+    if data != 0 {
+        return written_as(number, d.cell, Part::Data(data));
+    }
+    before
+}
+
 // Who put the word at an address where it is, after the message of a plan. The parts of the list of writes are asked
 // from its last to its first, so that the last write that names the address is found without walking the list.
 pub fn who_wrote(s: Settings, p: Plan, address: u16, number: u64, before: Who) -> Who
@@ -97,21 +115,12 @@ pub fn who_wrote(s: Settings, p: Plan, address: u16, number: u64, before: Who) -
     let deed = p.deed;
     let entry = p.entry;
     let area = s.area;
-    let a = address as usize;
-    if a == stack_pointer_place(area) {
+    if address as usize == stack_pointer_place(area) {
         return written_as(number, deed.cell, Part::StackPointer);
     }
     let stack = stack_word(entry.pointer, address);
     if stack != 0 {
         return written_as(number, deed.cell, Part::Stack(stack));
     }
-    if both(deed.moves, a == lookup_table(area) + deed.cell as usize) {
-        return written_as(number, deed.cell, Part::Pointer);
-    }
-    let window = deed.window;
-    let data = data_word(window, deed.stored, address);
-    if data != 0 {
-        return written_as(number, deed.cell, Part::Data(data));
-    }
-    before
+    deed_wrote(area, deed, address, number, before)
 }
