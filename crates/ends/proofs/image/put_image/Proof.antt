@@ -1,8 +1,8 @@
 -- `put_image` meets its contract.
 use borrow.Author.Needs.{needs}
-use Rattle.text.specs.Line.{imageLine}
-use Rattle.text.proofs.line.put_image.Statement.{statement}
-use Rattle.text.proofs.line.put_image.Tie as tie
+use Rattle.ends.specs.Image.{imageLine}
+use Rattle.ends.proofs.image.put_image.Statement.{statement}
+use Rattle.ends.proofs.image.put_image.Tie as tie
 
 slice-aggregate-put-named : tie.Need-slice-aggregate-put-named
 slice-aggregate-put-named c = search needs

@@ -1,8 +1,8 @@
 -- `byte_at` meets its contract.
 use lib.ListN.{List·getD-eq-default}
 use borrow.Author.Needs.{needs}
-use Rattle.trace.proofs.output.byte_at.Statement.{statement}
-use Rattle.trace.proofs.output.byte_at.Tie as tie
+use Rattle.ends.proofs.image.byte_at.Statement.{statement}
+use Rattle.ends.proofs.image.byte_at.Tie as tie
 
 shared-slice-read-result : tie.Need-shared-slice-read-result
 shared-slice-read-result c = search needs

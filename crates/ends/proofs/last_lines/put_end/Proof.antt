@@ -1,8 +1,8 @@
 -- `put_end` meets its contract.
 use borrow.Author.Needs.{needs}
-use Rattle.text.specs.Line.{endLine}
-use Rattle.text.proofs.line.put_end.Statement.{statement}
-use Rattle.text.proofs.line.put_end.Tie as tie
+use Rattle.ends.specs.LastLines.{endLine}
+use Rattle.ends.proofs.last_lines.put_end.Statement.{statement}
+use Rattle.ends.proofs.last_lines.put_end.Tie as tie
 
 slice-aggregate-put-named : tie.Need-slice-aggregate-put-named
 slice-aggregate-put-named c = search needs

@@ -2,10 +2,10 @@
 use native.Mathlib.Omega.{arith}
 use borrow.Author.Needs.{needs}
 use borrow.Author.Tests.{eq-eqb, ne-eqb}
-use Rattle.text.specs.Line.{tailLine}
+use Rattle.ends.specs.LastLines.{tailLine}
 use Rattle.text.proofs.Runs.{put-none}
-use Rattle.text.proofs.line.put_tail.Statement.{statement}
-use Rattle.text.proofs.line.put_tail.Tie as tie
+use Rattle.ends.proofs.last_lines.put_tail.Statement.{statement}
+use Rattle.ends.proofs.last_lines.put_tail.Tie as tie
 
 returns : tie.Need-returns
 unfolding tailLine

@@ -8,9 +8,9 @@ use borrow.Author.Needs.{needs}
 use Rattle.words.specs.Fill.{fillFrom, fill}
 use Rattle.words.proofs.Fill.{fill-more}
 use Rattle.layout.specs.Layout.{wordAt}
-use Rattle.trace.specs.Output.{imageInto}
-use Rattle.trace.proofs.output.load_image.Statement.{statement}
-use Rattle.trace.proofs.output.load_image.Tie as tie
+use Rattle.ends.specs.Image.{imageInto}
+use Rattle.ends.proofs.image.load_image.Statement.{statement}
+use Rattle.ends.proofs.image.load_image.Tie as tie
 
 abbrev Inv-loop : tie.InvT-loop
 Inv-loop ram₀ bytes i₀ ram i =

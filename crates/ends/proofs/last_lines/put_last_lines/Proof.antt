@@ -1,11 +1,11 @@
 -- `put_last_lines` meets its contract.
 use native.Mathlib.Omega.{arith}
 use borrow.Author.Needs.{needs}
-use Rattle.trace.specs.Output.{lastLines}
+use Rattle.ends.specs.LastLines.{lastLines}
 use Rattle.text.proofs.Runs.{put-then, put-first}
-use Rattle.trace.proofs.Printed.{last-most}
-use Rattle.trace.proofs.output.put_last_lines.Statement.{statement}
-use Rattle.trace.proofs.output.put_last_lines.Tie as tie
+use Rattle.ends.proofs.Lengths.{last-most}
+use Rattle.ends.proofs.last_lines.put_last_lines.Statement.{statement}
+use Rattle.ends.proofs.last_lines.put_last_lines.Tie as tie
 
 put-tail-requires : tie.Need-put-tail-requires
 put-tail-requires c κs = search needs

@@ -2,9 +2,9 @@
 use native.Mathlib.Omega.{arith}
 use borrow.Author.Needs.{needs}
 use Rattle.text.proofs.Runs.{put-first}
-use Rattle.trace.proofs.Printed.{image-most}
-use Rattle.trace.proofs.output.put_image_line.Statement.{statement}
-use Rattle.trace.proofs.output.put_image_line.Tie as tie
+use Rattle.ends.proofs.Lengths.{image-most}
+use Rattle.ends.proofs.image.put_image_line.Statement.{statement}
+use Rattle.ends.proofs.image.put_image_line.Tie as tie
 
 put-image-requires : tie.Need-put-image-requires
 put-image-requires c κs = search needs

@@ -1,15 +1,12 @@
-// What the trace program needs beside the walk: its image and its last lines.
+// The image that a program starts with, and the line of one that is cut short.
 ghost use mathlib.Core.Path.{_≡_};
 ghost use Prim.Native.Nat.{_+_, _*_, _<_, _^_};
 ghost use lib.ListN.{length, getD};
 ghost use Rattle.layout.specs.Layout.{wordAt};
-ghost use Rattle.text.specs.Text.{PutFirst};
-ghost use Rattle.text.specs.Line.{imageLine};
-ghost use Rattle.trace.specs.Output.{imageInto, lastLines};
+ghost use Rattle.text.specs.Text.{Put, PutFirst};
+ghost use Rattle.ends.specs.Image.{imageInto, imageLine};
 use layout::reader::join;
-use text::line::put_end;
-use text::line::put_image;
-use text::line::put_tail;
+use text::line::put_named;
 
 // A byte of the image, 0 past its end.
 fn byte_at(bytes: &[u8], i: usize) -> u8
@@ -36,12 +33,10 @@ pub fn load_image(ram: &mut [u16], bytes: &[u8])
     }
 }
 
-// The lines after the last whole record: the tail, if there is one, and the end line. Answers their length.
-pub fn put_last_lines(out: &mut [u8], tail: usize, number: u64) -> usize
-    ensures { λ r. ⌜ PutFirst (now (out .entry)) (lastLines tail number) (now (out .exit)) r ⌝ }
+pub fn put_image(out: &mut [u8], at: usize, bytes: u64) -> usize
+    ensures { λ r. ⌜ Put (now (out .entry)) at (imageLine bytes) (now (out .exit)) r ⌝ }
 {
-    let end = put_tail(out, 0, tail as u64);
-    put_end(out, end, number)
+    put_named(out, at, b"image", bytes)
 }
 
 // The line of an image that is cut short. Answers its length.
