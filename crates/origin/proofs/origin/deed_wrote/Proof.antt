@@ -1,9 +1,10 @@
 -- `deed_wrote` meets its contract: the lookup pointer, then the words.
 use native.Mathlib.Omega.{arith}
+use mathlib.Core.Path.{_≡_}
 use borrow.Author.Needs.{needs}
 use borrow.Author.Tests.{ne-eqb}
 use Rattle.memory.proofs.Places.{table-low}
-use Rattle.origin.specs.Placed.{deedWrote}
+use Rattle.origin.specs.Placed.{dataWord, deedWrote}
 use Rattle.origin.proofs.origin.deed_wrote.Statement.{statement}
 use Rattle.origin.proofs.origin.deed_wrote.Tie as tie
 
@@ -42,12 +43,15 @@ returns-2 : tie.Need-returns-2
 unfolding deedWrote
 returns-2 c = let found = c .before .before in
     let both = found .before .before .before in
+    let table = both .before .before in
+    let given = table .before .args in
+    let told : _ ≡ dataWord (given .d .window) (given .d .stored) (given .address) = found .data-word .ensures in
     rw (
       c .written-as2 .ensures,
-      ← (both .before .before .lookup-table .ensures),
+      ← (table .lookup-table .ensures),
       ← (both .both .ensures),
       found .before .before .if1 .left,
-      ← (found .data-word .ensures),
+      ← told,
       ne-eqb _ _ (c .before .if2 .taken),
     )
 
