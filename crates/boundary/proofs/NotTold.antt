@@ -7,8 +7,8 @@ use lib.Seq.{set-getD}
 use borrow.Author.Tests.{ne-eqb}
 use Rattle.words.specs.declared.settings.Settings.{Settings}
 use Rattle.message.specs.Heard.{Heard}
-use Rattle.who.specs.declared.origin.Who.{Who}
-use Rattle.who.specs.declared.origin.Who.the-variants.{Refused, AsInImage, Written}
+use Rattle.origin.specs.declared.origin.Who.{Who}
+use Rattle.origin.specs.declared.origin.Who.the-variants.{Refused, AsInImage, Written}
 use Rattle.who.specs.Tests.{replayRefusal, whoRefusal}
 use Rattle.who.specs.Replay.{goneOn, refusedAt, asked}
 use Rattle.tables.specs.Table.{filledWith}

@@ -14,13 +14,13 @@ use lent::setup::put_remembered;
 use lent::setup::remembered_from;
 use lent::setup::settings_from;
 use memory::ram::put;
+use origin::origin::Who;
+use replay::fill::fill;
+use replay::question::ask;
 use tables::table::Filling;
 use tables::table::entry_at;
-use tables::table::fill;
 use tables::table::number_at;
 use tables::table::put_number;
-use who::origin::Who;
-use who::question::ask;
 use who::values::Values;
 use who::values::values_of;
 

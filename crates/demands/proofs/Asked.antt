@@ -12,18 +12,19 @@ use Rattle.words.specs.Refusal.{Test, firstOf}
 use Rattle.words.proofs.Basics.{yes-or-no, eq-or-ne}
 use Rattle.words.proofs.Refusals.{numbered}
 use Rattle.message.specs.Heard.{Heard}
-use Rattle.who.specs.declared.origin.Who.{Who}
-use Rattle.who.specs.declared.origin.Who.the-variants.{Refused, AsInImage, Written}
-use Rattle.who.specs.declared.question.Standing.{Standing}
+use Rattle.origin.specs.declared.origin.Who.{Who}
+use Rattle.origin.specs.declared.origin.Who.the-variants.{Refused, AsInImage, Written}
+use Rattle.who.specs.declared.standing.Standing.{Standing}
 use Rattle.who.specs.Tests.{replayTests, replayRefusal, whoTests, whoRefusal}
-use Rattle.who.specs.Origin.{writesIn, lastPlace, whoAt, whoNext}
+use Rattle.origin.specs.Origin.{lastPlace, whoAt}
+use Rattle.who.specs.Next.{writesIn, whoNext}
 use Rattle.who.specs.Values.{valuesOf}
 use Rattle.who.specs.Replay.{Replay, replayOf, replayRecord, replay, refusedAt, goneOn, asked, terminalIn}
 use Rattle.who.proofs.Answers.{who-put-this-here}
 use Rattle.tables.specs.declared.table.Filling.{Filling}
-use Rattle.tables.specs.declared.table.Filled.{Filled}
 use Rattle.tables.specs.Mark.{entryOf}
 use Rattle.tables.specs.Table.{Tables, tablesOf, entryAt, filledWith}
+use Rattle.replay.specs.declared.fill.Filled.{Filled}
 use Rattle.lent.specs.Over.{over}
 use Rattle.boundary.specs.Origins.{partWords, LentTables, tablesAfter}
 use Rattle.boundary.proofs.NotTold.{fill-refused, not-told, who-refused}

@@ -12,8 +12,9 @@ use Rattle.demands.proofs.Described.{cell-described, stack-described, e
 use Rattle.message.proofs.serve
 use Rattle.trace.proofs.walk
 use Rattle.who.specs.Replay.{heardIn}
-use Rattle.who.proofs.question
 use Rattle.tables.proofs.table
+use Rattle.replay.proofs.question
+use Rattle.replay.proofs.fill
 use Rattle.view.proofs.view
 use Rattle.lent.specs.Setup.{settingsFrom}
 use Rattle.lent.specs.Values.{valueFrom}
@@ -175,7 +176,7 @@ first =
       fill =
           record {
             any = λ κs given. tt;
-            ends = table.fill.Met.met;
+            ends = fill.fill.Met.met;
             says =
                 λ c.
                 fill-answered (c .given .1 .1 .1 .0) (heardIn (now (c .given .1 .1 .1 .1 .1 .0))) (now (c .given .0))

@@ -39,13 +39,14 @@ use Rattle.message.specs.Tests.{testsFor, recordTests}
 use Rattle.message.specs.Answer.{refusedWith}
 use Rattle.message.proofs.serve
 use Rattle.trace.proofs.walk
-use Rattle.who.specs.declared.origin.Who.{Who}
-use Rattle.who.specs.declared.origin.Who.the-variants.{Refused}
-use Rattle.who.specs.declared.question.Standing.{Standing}
+use Rattle.origin.specs.declared.origin.Who.{Who}
+use Rattle.origin.specs.declared.origin.Who.the-variants.{Refused}
+use Rattle.who.specs.declared.standing.Standing.{Standing}
 use Rattle.who.specs.Tests.{replayTests, whoTests}
 use Rattle.who.specs.Values.{valuesOf}
-use Rattle.who.proofs.question
 use Rattle.tables.proofs.table
+use Rattle.replay.proofs.question
+use Rattle.replay.proofs.fill
 use Rattle.view.specs.declared.view.Taken.{Taken}
 use Rattle.view.proofs.view
 use Rattle.lent.specs.Over.{over}
@@ -277,8 +278,8 @@ pub record Demand : Type 2 where
       (c .left .0))
   -- and for every address at once: a refusal leaves RAM and the tables, and what is remembered, as they were
   pub fill :
-      Entry 4 table.fill.Kinds.ps table.fill.Kinds.r table.fill.Reads.Pre table.fill.Reads.Post
-      table.fill.Statement.statement
+      Entry 4 fill.fill.Kinds.ps fill.fill.Kinds.r fill.fill.Reads.Pre fill.fill.Reads.Post
+      fill.fill.Statement.statement
       (λ c.
       Answered (replayTests (length (now (c .given .0))) (c .given .1 .1 .1 .0)) (c .back .number) (c .back)
       (λ n. record { number = n; at = c .given .1 .1 .1 .1 .0 })

@@ -19,13 +19,13 @@ use Rattle.windows.specs.Window.{placeOf}
 use Rattle.decide.specs.declared.plan.Plan.{Plan}
 use Rattle.carry.specs.Writes.{pointerWrites, descriptorOf, entryWrites, deedWrites, stackWrites, writesOf}
 use Rattle.carry.proofs.Replied.{length-writes}
-use Rattle.who.specs.declared.origin.Part.{Part}
-use Rattle.who.specs.declared.origin.Part.the-variants.{Data, Pointer, Stack, StackPointer}
-use Rattle.who.specs.Origin.{lastPlace, partAt}
+use Rattle.origin.specs.declared.origin.Part.{Part}
+use Rattle.origin.specs.declared.origin.Part.the-variants.{Data, Pointer, Stack, StackPointer}
+use Rattle.origin.specs.Origin.{lastPlace, partAt}
 use Rattle.who.specs.Answered.{wordAt}
 use Rattle.tables.specs.Table.{dataMarks, pointerMarks, stackMarks, markWrites}
-use Rattle.who.proofs.Last.{none-avoids, last-word, last-within}
-use Rattle.who.proofs.Placed.{behind, part-data, part-pointer, part-stack, part-stack-pointer}
+use Rattle.origin.proofs.Last.{none-avoids, last-word, last-within}
+use Rattle.origin.proofs.Placed.{behind, part-data, part-pointer, part-stack, part-stack-pointer}
 
 -- ---- the same places
 

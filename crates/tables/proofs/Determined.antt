@@ -14,9 +14,6 @@ put-number-settled κs a x y v w p q = (refl, λ i. (determined p q i, v .1))
 pub entry-at-settled : Settled 2 table.entry_at.Kinds.ps table.entry_at.Kinds.r table.entry_at.Reads.Post
 entry-at-settled κs a x y v w p q = (determined p q, refl)
 
-pub fill-settled : Settled 4 table.fill.Kinds.ps table.fill.Kinds.r table.fill.Reads.Post
-fill-settled κs a x y v w p q =
-    let t = determined (p .1) (q .1) in (
-      λ i. record { number = determined (p .0) (q .0) i; at = t i .at },
-      λ i. (t i .ram, (t i .numbers, (t i .marks, v .1 .1 .1))),
-    )
+pub mark-plan-settled : Settled 2 table.mark_plan.Kinds.ps table.mark_plan.Kinds.r table.mark_plan.Reads.Post
+mark-plan-settled κs a x y v w p q =
+    (refl, λ i. (determined (p .0) (q .0) i, (determined (p .1) (q .1) i, v .1 .1)))

@@ -1,6 +1,5 @@
 pub mod Beside
 pub mod Marked
-pub mod Filling
 pub mod Marks
 pub mod Tables
 pub mod Determined

@@ -10,8 +10,8 @@ use Rattle.memory.specs.Writes.{applyWrites}
 use Rattle.memory.proofs.Writes.{apply-append}
 use Rattle.deed.specs.declared.deed.Deed.{Deed}
 use Rattle.decide.specs.declared.plan.Plan.{Plan}
-use Rattle.who.specs.declared.origin.Part.{Part}
-use Rattle.who.specs.declared.origin.Part.the-variants.{Pointer, StackPointer}
+use Rattle.origin.specs.declared.origin.Part.{Part}
+use Rattle.origin.specs.declared.origin.Part.the-variants.{Pointer, StackPointer}
 use Rattle.tables.specs.Table.{dataMarks, pointerMarks, stackMarks, markWrites}
 
 -- the pointer where it moves, and where it stays

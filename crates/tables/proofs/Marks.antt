@@ -9,9 +9,9 @@ use borrow.Author.Tests.{ne-eqb, leb-true}
 use Rattle.words.specs.Bits.{bitOf}
 use Rattle.words.proofs.Basics.{yes-or-no}
 use Rattle.deed.specs.declared.deed.Deed.{Deed}
-use Rattle.who.specs.declared.origin.Part.{Part}
-use Rattle.who.specs.declared.origin.Part.the-variants.{Data, Pointer, Stack, StackPointer}
-use Rattle.who.specs.Origin.{partAt, written}
+use Rattle.origin.specs.declared.origin.Part.{Part}
+use Rattle.origin.specs.declared.origin.Part.the-variants.{Data, Pointer, Stack, StackPointer}
+use Rattle.origin.specs.Origin.{partAt, written}
 use Rattle.who.specs.Values.{partKind, partPlace}
 use Rattle.tables.specs.Mark.{markOf, partMarked, entryOf}
 

@@ -24,10 +24,11 @@ use Rattle.message.specs.Tests.{refusalFor}
 use Rattle.message.specs.Message.{planFor}
 use Rattle.message.proofs.Step.{cell-low}
 use Rattle.trace.specs.Walk.{nextNumber}
-use Rattle.who.specs.declared.origin.Part.{Part}
-use Rattle.who.specs.declared.origin.Who.{Who}
+use Rattle.origin.specs.declared.origin.Part.{Part}
+use Rattle.origin.specs.declared.origin.Who.{Who}
 use Rattle.who.specs.Tests.{replayRefusal, whoRefusal}
-use Rattle.who.specs.Origin.{writesIn, lastPlace, partAt, whoAt, whoNext}
+use Rattle.origin.specs.Origin.{lastPlace, partAt, whoAt}
+use Rattle.who.specs.Next.{writesIn, whoNext}
 use Rattle.who.specs.Replay.{Replay, replayOf, replayRecord, replay, beginning, goneOn, asked}
 use Rattle.who.specs.Values.{partPlace}
 use Rattle.tables.specs.Mark.{markOf, entryOf}

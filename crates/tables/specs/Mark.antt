@@ -2,11 +2,11 @@
 use Prim.Native.Nat.{ℕ, _+_, _*_, _/_, _%_}
 use mathlib.Core.Bool.{cond}
 use lib.Dec.{eqb}
-use Rattle.who.specs.declared.origin.Part.{Part}
-use Rattle.who.specs.declared.origin.Part.the-variants.{Data, Pointer, Stack, StackPointer}
-use Rattle.who.specs.declared.origin.Who.{Who}
-use Rattle.who.specs.declared.origin.Who.the-variants.{AsInImage}
-use Rattle.who.specs.Origin.{written}
+use Rattle.origin.specs.declared.origin.Part.{Part}
+use Rattle.origin.specs.declared.origin.Part.the-variants.{Data, Pointer, Stack, StackPointer}
+use Rattle.origin.specs.declared.origin.Who.{Who}
+use Rattle.origin.specs.declared.origin.Who.the-variants.{AsInImage}
+use Rattle.origin.specs.Origin.{written}
 use Rattle.who.specs.Values.{partKind, partPlace}
 
 -- a write's kind, place and cell in one word: bits 15-13, 12-7, 6-0

@@ -19,13 +19,13 @@ use Rattle.message.specs.Heard.{Heard}
 use Rattle.message.specs.Tests.{refusalFor}
 use Rattle.message.specs.Message.{planFor, step}
 use Rattle.trace.specs.Walk.{nextNumber}
-use Rattle.who.specs.declared.origin.Part.{Part}
-use Rattle.who.specs.declared.origin.Part.the-variants.{Data, Pointer, Stack, StackPointer}
-use Rattle.who.specs.declared.origin.Who.{Who}
-use Rattle.who.specs.declared.origin.Who.the-variants.{Refused}
+use Rattle.origin.specs.declared.origin.Part.{Part}
+use Rattle.origin.specs.declared.origin.Part.the-variants.{Data, Pointer, Stack, StackPointer}
+use Rattle.origin.specs.declared.origin.Who.{Who}
+use Rattle.origin.specs.declared.origin.Who.the-variants.{Refused}
 use Rattle.tables.specs.declared.table.Filling.{Filling}
 use Rattle.who.specs.Tests.{replayRefusal}
-use Rattle.who.specs.Taken.{terminalOf}
+use Rattle.who.specs.Replay.{terminalOf}
 use Rattle.tables.specs.Mark.{markOf, entryOf}
 
 -- what a table of numbers and one of marks say of an address

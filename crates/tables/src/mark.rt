@@ -1,9 +1,9 @@
 // A write's kind, place and cell in one word, and back again.
 ghost use mathlib.Core.Path.{_≡_};
 ghost use Rattle.tables.specs.Mark.{markOf, partMarked, entryOf};
-use who::origin::Origin;
-use who::origin::Part;
-use who::origin::Who;
+use origin::origin::Origin;
+use origin::origin::Part;
+use origin::origin::Who;
 use who::values::part_kind;
 use who::values::part_place;
 

@@ -1,12 +1,9 @@
-// The answer for every address at once: two lent tables, as long as RAM, that are filled as a trace is replayed.
+// The answer for every address at once: two lent tables, as long as RAM, where a plan marks every word that it writes.
 ghost use mathlib.Core.Path.{_≡_};
-ghost use lib.ListN.{length, getD, set};
+ghost use lib.ListN.{getD, set};
 ghost use Rattle.memory.specs.Writes.{applyWrites};
-ghost use Rattle.message.specs.Heard.{heardBytes};
-ghost use Rattle.who.specs.Tests.{replayRefusal};
-ghost use Rattle.who.specs.Replay.{heardIn};
 ghost use Rattle.tables.specs.Mark.{markOf};
-ghost use Rattle.tables.specs.Table.{entryAt, dataMarks, pointerMarks, stackMarks, markWrites, tablesOf, fillRecord, fillAll, filledWith};
+ghost use Rattle.tables.specs.Table.{entryAt, dataMarks, pointerMarks, stackMarks, markWrites};
 use crate::mark::entry_of;
 use crate::mark::mark_of;
 use decide::entry::Entry;
@@ -16,12 +13,8 @@ use memory::map::lookup_table;
 use memory::map::stack_pointer_place;
 use memory::ram::put;
 use memory::ram::word_at;
-use std::num::wrapping_add_u64;
-use who::origin::Part;
-use who::origin::Who;
-use who::taken::Taken;
-use who::taken::take_record;
-use who::tests::replay_refusal;
+use origin::origin::Part;
+use origin::origin::Who;
 use windows::window::place;
 use words::number::ADDRESS_BEYOND;
 use words::remembered::Remembered;
@@ -32,12 +25,6 @@ use words::settings::Settings;
 pub struct Filling {
     pub remembered: Remembered,
     pub number: u64,
-}
-
-// The number that refuses, or 0, and where the replay stands.
-pub struct Filled {
-    pub number: u16,
-    pub at: Filling,
 }
 
 // A number of the table, 0 past its end.
@@ -121,7 +108,7 @@ fn mark_stack(numbers: &mut [u64], marks: &mut [u16], e: Entry, cell: u16, numbe
 }
 
 // Every word that a plan writes.
-fn mark_plan(numbers: &mut [u64], marks: &mut [u16], s: Settings, p: Plan, number: u64)
+pub fn mark_plan(numbers: &mut [u64], marks: &mut [u16], s: Settings, p: Plan, number: u64)
     ensures numbers { λ r. ⌜ now (numbers .exit) ≡ applyWrites (markWrites (λ part. number) s p) (now (numbers .entry)) ⌝ }
     ensures marks { λ r. ⌜ now (marks .exit) ≡ applyWrites (markWrites (markOf (p .deed .cell)) s p) (now (marks .entry)) ⌝ }
 {
@@ -133,73 +120,4 @@ fn mark_plan(numbers: &mut [u64], marks: &mut [u16], s: Settings, p: Plan, numbe
     mark_stack(numbers, marks, entry, deed.cell, number);
     let mark = mark_of(deed.cell, Part::StackPointer);
     mark_at(numbers, marks, stack_pointer_place(area), number, mark);
-}
-
-// One record more.
-fn fill_record(
-    ram: &mut [u16],
-    numbers: &mut [u64],
-    marks: &mut [u16],
-    s: Settings,
-    at: Filling,
-    bytes: &[u8],
-) -> Filling
-    ensures { λ r. ⌜ tablesOf (now (ram .exit)) (now (numbers .exit)) (now (marks .exit)) r ≡ fillRecord s (heardBytes (now (bytes .entry))) (tablesOf (now (ram .entry)) (now (numbers .entry)) (now (marks .entry)) at) ⌝ }
-{
-    let before = at.remembered;
-    let number = wrapping_add_u64(at.number, 1);
-    let taken = take_record(ram, s, before, bytes);
-    match taken {
-        Taken::Passed => Filling {
-            remembered: before,
-            number,
-        },
-        Taken::Carried(plan, remembered) => {
-            mark_plan(numbers, marks, s, plan, number);
-            Filling { remembered, number }
-        }
-    }
-}
-
-// All whole records of a part of a trace.
-fn fill_all(
-    ram: &mut [u16],
-    numbers: &mut [u64],
-    marks: &mut [u16],
-    s: Settings,
-    at: Filling,
-    trace: &[u8],
-) -> Filling
-    ensures { λ r. ⌜ tablesOf (now (ram .exit)) (now (numbers .exit)) (now (marks .exit)) r ≡ fillAll s (heardIn (now (trace .entry))) (tablesOf (now (ram .entry)) (now (numbers .entry)) (now (marks .entry)) at) ⌝ }
-{
-    let records = trace.len() / 80;
-    let mut w = at;
-    let mut i: usize = 0;
-    while i < records {
-        let from = 80 * i;
-        w = fill_record(ram, numbers, marks, s, w, &trace[from..from + 80]);
-        i += 1;
-    }
-    w
-}
-
-// A part of a trace: RAM is replayed where it is lent, and the tables go on from what they hold, all zero at first. A
-// table that is shorter than RAM is filled as far as it reaches. A refusal changes nothing.
-pub fn fill(
-    ram: &mut [u16],
-    numbers: &mut [u64],
-    marks: &mut [u16],
-    s: Settings,
-    at: Filling,
-    trace: &[u8],
-) -> Filled
-    ensures number { λ r. ⌜ r .number ≡ replayRefusal (length (now (ram .entry))) s ⌝ }
-    ensures tables { λ r. ⌜ tablesOf (now (ram .exit)) (now (numbers .exit)) (now (marks .exit)) (r .at) ≡ filledWith s (heardIn (now (trace .entry))) (tablesOf (now (ram .entry)) (now (numbers .entry)) (now (marks .entry)) at) ⌝ }
-{
-    let number = replay_refusal(ram.len(), s);
-    if number != 0 {
-        return Filled { number, at };
-    }
-    let end = fill_all(ram, numbers, marks, s, at, trace);
-    Filled { number: 0, at: end }
 }

@@ -13,18 +13,6 @@ pub put-hex-word-settled : Settled 1 line.put_hex_word.Kinds.ps line.put_hex_wor
 put-hex-word-settled κs a x y v w p q =
     (determined (p .place) (q .place), λ i. (determined (p .bytes) (q .bytes) i, v .1))
 
-pub put-tail-settled : Settled 1 line.put_tail.Kinds.ps line.put_tail.Kinds.r line.put_tail.Reads.Post
-put-tail-settled κs a x y v w p q =
-    (determined (p .place) (q .place), λ i. (determined (p .bytes) (q .bytes) i, v .1))
-
-pub put-end-settled : Settled 1 line.put_end.Kinds.ps line.put_end.Kinds.r line.put_end.Reads.Post
-put-end-settled κs a x y v w p q =
-    (determined (p .place) (q .place), λ i. (determined (p .bytes) (q .bytes) i, v .1))
-
-pub put-image-settled : Settled 1 line.put_image.Kinds.ps line.put_image.Kinds.r line.put_image.Reads.Post
-put-image-settled κs a x y v w p q =
-    (determined (p .place) (q .place), λ i. (determined (p .bytes) (q .bytes) i, v .1))
-
 pub put-bytes-settled : Settled 2 text.put_bytes.Kinds.ps text.put_bytes.Kinds.r text.put_bytes.Reads.Post
 put-bytes-settled κs a x y v w p q =
     (determined (p .place) (q .place), λ i. (determined (p .bytes) (q .bytes) i, v .1))

@@ -11,7 +11,7 @@ use borrow.Author.Tests.{eqb-true}
 use Rattle.words.proofs.Basics.{yes-or-no}
 use Rattle.message.specs.declared.answer.Answer.{Answer}
 use Rattle.text.specs.Text.{decimalText, digits, placesUpTo}
-use Rattle.text.specs.Line.{statusText, noneText, startText, threeWords, acceptedLine, refusedLine, lineOf, namedLine, tailName, endName, tailLine, endLine}
+use Rattle.text.specs.Line.{statusText, noneText, startText, threeWords, acceptedLine, refusedLine, lineOf, namedLine}
 use Rattle.text.proofs.Runs.{length-hex}
 use Rattle.text.proofs.Numerals.{decimal-most}
 
@@ -56,14 +56,3 @@ line-most number a =
 pub named-most : (name : List ℕ) (n : ℕ) → length (namedLine name n) ≤ length name + 22
 unfolding namedLine
 named-most name n = simp length-append (omega (arith, decimal-most n))
-
-pub tail-most : (n : ℕ) → length (tailLine n) ≤ 26
-unfolding tailLine
-tail-most n =
-    ⊎-elim (λ (e : eqb n 0 ≡ true). rw e (omega arith))
-    (λ (e : eqb n 0 ≡ false). rw e (named-most tailName n))
-    (yes-or-no (eqb n 0))
-
-pub end-most : (n : ℕ) → length (endLine n) ≤ 25
-unfolding endLine
-end-most n = named-most endName n

@@ -1,4 +1,4 @@
--- The lines that the trace program prints.
+-- A record's line, and lines of a name and a number.
 use Prim.Native.Nat.{ℕ}
 use mathlib.Core.Bool.{Bool, cond}
 use mathlib.Core.List.{List, [], _∷_, _++_}
@@ -49,25 +49,3 @@ lineOf number a = cond (eqb (a .number) 0) (acceptedLine number a) (refusedLine 
 -- a line of a name and a number
 unfoldable pub namedLine : List ℕ → ℕ → List ℕ
 namedLine name n = name ++ column (decimalText n) ++ newline
-
--- "tail", "end", "image"
-abbrev pub tailName : List ℕ
-tailName = 116 ∷ 97 ∷ 105 ∷ 108 ∷ []
-
-abbrev pub endName : List ℕ
-endName = 101 ∷ 110 ∷ 100 ∷ []
-
-abbrev pub imageName : List ℕ
-imageName = 105 ∷ 109 ∷ 97 ∷ 103 ∷ 101 ∷ []
-
--- "A short tail prints "tail" and its length, 1 to 79, on a line before the end line"; no tail prints nothing
-unfoldable pub tailLine : ℕ → List ℕ
-tailLine n = cond (eqb n 0) [] (namedLine tailName n)
-
--- "the end line counts whole records, refused ones too"
-unfoldable pub endLine : ℕ → List ℕ
-endLine n = namedLine endName n
-
--- "An image under 8,192 bytes prints "image" and its length, and nothing else."
-unfoldable pub imageLine : ℕ → List ℕ
-imageLine n = namedLine imageName n

@@ -1,6 +1,6 @@
 // The program's lines into a lent buffer. Each function answers the place after what it puts there.
 ghost use Rattle.text.specs.Text.{Put, hexText, decimalText, newline};
-ghost use Rattle.text.specs.Line.{column, statusText, startText, threeWords, acceptedLine, refusedLine, lineOf, namedLine, tailLine, endLine, imageLine};
+ghost use Rattle.text.specs.Line.{column, statusText, startText, threeWords, acceptedLine, refusedLine, lineOf, namedLine};
 use crate::text::after;
 use crate::text::places;
 use crate::text::put_byte;
@@ -117,26 +117,4 @@ pub fn put_named(out: &mut [u8], at: usize, name: &[u8], n: u64) -> usize
     let next = put_bytes(out, at, name);
     let end = put_number(out, next, n);
     put_newline(out, end)
-}
-
-// Nothing where there is no tail.
-pub fn put_tail(out: &mut [u8], at: usize, tail: u64) -> usize
-    ensures { λ r. ⌜ Put (now (out .entry)) at (tailLine tail) (now (out .exit)) r ⌝ }
-{
-    if tail == 0 {
-        return at;
-    }
-    put_named(out, at, b"tail", tail)
-}
-
-pub fn put_end(out: &mut [u8], at: usize, number: u64) -> usize
-    ensures { λ r. ⌜ Put (now (out .entry)) at (endLine number) (now (out .exit)) r ⌝ }
-{
-    put_named(out, at, b"end", number)
-}
-
-pub fn put_image(out: &mut [u8], at: usize, bytes: u64) -> usize
-    ensures { λ r. ⌜ Put (now (out .entry)) at (imageLine bytes) (now (out .exit)) r ⌝ }
-{
-    put_named(out, at, b"image", bytes)
 }

@@ -9,12 +9,11 @@ use borrow.Author.Tests.{lt-ltb, le-ltb}
 use Rattle.words.specs.declared.settings.Settings.{Settings}
 use Rattle.words.specs.declared.remembered.Remembered.{Remembered}
 use Rattle.words.specs.Remembered.{nothingRemembered}
+use Rattle.ends.specs.Image.{imageRam, imageLine}
 use Rattle.trace.specs.declared.walk.Walked.{Walked}
-use Rattle.text.specs.Line.{imageName, imageLine}
 use Rattle.trace.specs.Walk.{Walk, walkAll, walkStart, walkedOf, anew}
 use Rattle.words.specs.Settings.{programSettings}
-use Rattle.trace.specs.Output.{imageRam, lastLines, textToEnd, traceText, programOutput, written, refilled, WholeRefills}
-use Rattle.text.proofs.Lines.{named-most, tail-most, end-most}
+use Rattle.trace.specs.Output.{textToEnd, traceText, programOutput, written, refilled, WholeRefills}
 use Rattle.trace.proofs.Walks.{text-most}
 use Rattle.trace.proofs.Chunks.{walk-append, all-anew}
 
@@ -91,12 +90,3 @@ pub used-fits :
     walked ≡ walkedOf (walkAll s trace (walkStart ram reply before number)) →
     walked .used ≤ length trace
 used-fits s trace ram reply before number walked e = rw e (text-fits s trace ram reply before number)
-
--- the last lines are short
-pub last-most : (tail number : ℕ) → length (lastLines tail number) ≤ 52
-unfolding lastLines
-last-most tail number = rw length-append (omega (arith, tail-most tail, end-most number))
-
-pub image-most : (n : ℕ) → length (imageLine n) ≤ 27
-unfolding imageLine
-image-most n = named-most imageName n

@@ -1,5 +1,5 @@
 -- The trace program's whole output for a whole input.
-use Prim.Native.Nat.{ℕ, _*_, _%_}
+use Prim.Native.Nat.{ℕ, _%_}
 use mathlib.Core.Bool.{cond}
 use mathlib.Core.Path.{_≡_}
 use mathlib.Core.List.{List, [], _∷_, _++_}
@@ -7,22 +7,9 @@ use lib.ListN.{length, take, drop, replicate}
 use lib.Dec.{ltb}
 use Rattle.words.specs.Settings.{programSettings}
 use Rattle.words.specs.Remembered.{nothingRemembered}
-use Rattle.words.specs.Fill.{fill}
-use Rattle.layout.specs.Layout.{wordAt}
-use Rattle.text.specs.Line.{tailLine, endLine, imageLine}
+use Rattle.ends.specs.Image.{imageRam, imageLine}
+use Rattle.ends.specs.LastLines.{lastLines}
 use Rattle.trace.specs.Walk.{Walk, walkStart, walkAll, anew}
-
--- "8,192 bytes of RAM image, each word high byte first": the first n words of it, put over ram
-unfoldable pub imageInto : List ℕ → List ℕ → ℕ → List ℕ
-imageInto bytes ram n = fill (λ k. wordAt bytes (2 * k)) ram n
-
--- the RAM that the program starts with
-unfoldable pub imageRam : List ℕ → List ℕ
-imageRam bytes = imageInto bytes (replicate 4096 0) 4096
-
--- the lines after the last whole record: the tail, if there is one, and the end line
-unfoldable pub lastLines : ℕ → ℕ → List ℕ
-lastLines tail number = tailLine tail ++ endLine number
 
 -- from a walk on to the end of the trace: a line for each whole record, and the last lines
 unfoldable pub textToEnd : List ℕ → Walk → List ℕ

@@ -1,3 +1,2 @@
 // The fourth layer: walking a trace, and the program's whole output. Document 01, "Trace program".
-pub mod output;
 pub mod walk;

@@ -5,11 +5,11 @@
 
 ghost use Prim.Native.Nat.{_≤_};
 ghost use lib.ListN.{length};
+use ends::image::load_image;
+use ends::image::put_image_line;
+use ends::last_lines::put_last_lines;
 use streams::input::fill;
 use streams::output::print;
-use trace::output::load_image;
-use trace::output::put_image_line;
-use trace::output::put_last_lines;
 use trace::walk::walk;
 use words::remembered::Remembered;
 use words::remembered::nothing_remembered;

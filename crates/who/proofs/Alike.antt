@@ -17,7 +17,7 @@ use Rattle.message.specs.Message.{planFor, carriedOut, step}
 use Rattle.message.specs.Run.{run}
 use Rattle.message.proofs.Refusals.{refused-state, accepted-state}
 use borrow.Author.Tests.{eq-eqb, ne-eqb}
-use Rattle.who.specs.Origin.{writesIn}
+use Rattle.who.specs.Next.{writesIn}
 use Rattle.who.specs.Replay.{Replay, terminalIn, replayRecord, replay}
 
 pub record Alike (w : Replay) (x : State) : Type 0 where

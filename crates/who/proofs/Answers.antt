@@ -28,16 +28,17 @@ use Rattle.message.specs.Heard.{Heard}
 use Rattle.message.specs.Tests.{refusalFor}
 use Rattle.message.specs.Message.{planFor, step}
 use Rattle.message.specs.Run.{run}
-use Rattle.who.specs.declared.origin.Origin.{Origin}
-use Rattle.who.specs.declared.origin.Part.the-variants.{Data}
-use Rattle.who.specs.declared.origin.Who.{Who}
-use Rattle.who.specs.declared.origin.Who.the-variants.{AsInImage, Written}
-use Rattle.who.specs.Origin.{writesIn, lastPlace, partAt, whoAt, whoNext}
+use Rattle.origin.specs.declared.origin.Origin.{Origin}
+use Rattle.origin.specs.declared.origin.Part.the-variants.{Data}
+use Rattle.origin.specs.declared.origin.Who.{Who}
+use Rattle.origin.specs.declared.origin.Who.the-variants.{AsInImage, Written}
+use Rattle.origin.specs.Origin.{lastPlace, partAt, whoAt}
+use Rattle.who.specs.Next.{writesIn, whoNext}
 use Rattle.who.specs.Tests.{whoTests, whoRefusal}
 use Rattle.who.specs.Values.{valuesOf}
 use Rattle.who.specs.Replay.{Replay, replayOf, replayRecord, replay, beginning, refusedAt, goneOn, asked}
 use Rattle.who.specs.Answered.{terminalWith, noneWrites, wordAt, Named, Answered}
-use Rattle.who.proofs.Last.{none-avoids, last-word}
+use Rattle.origin.proofs.Last.{none-avoids, last-word}
 use Rattle.who.proofs.Alike.{Alike, writes-made, plan-alike, writes-alike, record-alike, replay-alike}
 
 -- ---- the words of a list of writes

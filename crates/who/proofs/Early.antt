@@ -11,8 +11,8 @@ use Rattle.words.specs.Refusal.{_when_, firstOf}
 use Rattle.words.proofs.Refusals.{accepted, first-stops, first-passes}
 use Rattle.message.specs.Heard.{Heard}
 use Rattle.message.specs.Tests.{earlyTests, testsFor, refusalFor}
-use Rattle.who.specs.Taken.{terminalOf}
 use Rattle.who.specs.Tests.{replayTests, replayRefusal, whoTests, whoRefusal}
+use Rattle.who.specs.Replay.{terminalOf}
 
 pub replay-early :
     (words : ℕ) (s : Settings) (n : ℕ) → n ≡ replayRefusal words s → n ≡ 0 → firstOf (earlyTests words 33 s) ≡ 0

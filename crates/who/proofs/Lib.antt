@@ -1,8 +1,4 @@
-pub mod Last
-pub mod Placed
 pub mod Early
-pub mod Taking
-pub mod Recorded
 pub mod Turns
 pub mod Alike
 pub mod Answers

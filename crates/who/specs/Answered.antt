@@ -12,14 +12,14 @@ use Rattle.message.specs.Heard.{Heard}
 use Rattle.message.specs.Tests.{refusalFor}
 use Rattle.message.specs.Message.{planFor, step}
 use Rattle.message.specs.Run.{run}
-use Rattle.who.specs.declared.origin.Origin.{Origin}
-use Rattle.who.specs.declared.origin.Part.the-variants.{Data}
-use Rattle.who.specs.declared.origin.Who.the-variants.{AsInImage, Written}
+use Rattle.origin.specs.declared.origin.Origin.{Origin}
+use Rattle.origin.specs.declared.origin.Part.the-variants.{Data}
+use Rattle.origin.specs.declared.origin.Who.the-variants.{AsInImage, Written}
 use Rattle.who.specs.Tests.{whoRefusal}
-use Rattle.who.specs.Taken.{terminalOf}
-use Rattle.who.specs.Origin.{writesIn, lastPlace, partAt}
+use Rattle.origin.specs.Origin.{lastPlace, partAt}
+use Rattle.who.specs.Next.{writesIn}
 use Rattle.who.specs.Values.{valuesOf}
-use Rattle.who.specs.Replay.{replayOf, beginning, refusedAt, asked}
+use Rattle.who.specs.Replay.{terminalOf, replayOf, beginning, refusedAt, asked}
 
 -- the terminal with a starting image: nothing is remembered
 abbrev pub terminalWith : List ℕ → State

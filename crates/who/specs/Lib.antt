@@ -1,7 +1,5 @@
 pub mod Tests
-pub mod Taken
-pub mod Origin
+pub mod Next
 pub mod Values
-pub mod Placed
 pub mod Replay
 pub mod Answered

@@ -2,19 +2,19 @@
 use Prim.Native.Nat.{ℕ, zero, suc}
 use mathlib.Core.Bool.{cond}
 use mathlib.Core.List.{List, [], _∷_, _++_}
-use lib.ListN.{length}
+use lib.ListN.{length, replicate}
 use lib.Dec.{eqb}
 use Rattle.words.specs.declared.settings.Settings.{Settings}
+use Rattle.words.specs.declared.remembered.Remembered.{Remembered}
 use Rattle.words.specs.Remembered.{nothingRemembered}
-use Rattle.memory.specs.State.{State}
+use Rattle.memory.specs.State.{State, stateOf}
 use Rattle.message.specs.Heard.{Heard, heardBytes}
 use Rattle.message.specs.Message.{step}
 use Rattle.trace.specs.Walk.{recordAt, wholeRecords, nextNumber}
-use Rattle.who.specs.declared.origin.Who.the-variants.{Refused, AsInImage}
-use Rattle.who.specs.declared.question.Standing.{Standing}
-use Rattle.who.specs.Taken.{terminalOf}
+use Rattle.origin.specs.declared.origin.Who.the-variants.{Refused, AsInImage}
+use Rattle.who.specs.declared.standing.Standing.{Standing}
 use Rattle.who.specs.Tests.{whoRefusal}
-use Rattle.who.specs.Origin.{whoNext}
+use Rattle.who.specs.Next.{whoNext}
 
 -- the first n records of a trace, as they are heard
 unfoldable pub heardTo : List ℕ → ℕ → List Heard
@@ -32,6 +32,10 @@ pub record Replay : Type 0 where
 
 abbrev pub replayOf : List ℕ → Standing → Replay
 replayOf ram at = record { ram = ram; at = at }
+
+-- the terminal that takes a record, with room for a reply
+abbrev pub terminalOf : List ℕ → Remembered → State
+terminalOf ram remembered = stateOf ram (replicate 33 0) remembered
 
 -- the terminal that takes the next record
 abbrev pub terminalIn : Replay → State

@@ -22,7 +22,7 @@ pub fn replay_refusal(words: usize, s: Settings) -> u16
 }
 
 // 1, 3, then 12.
-pub(crate) fn who_refusal(words: usize, s: Settings, address: u16) -> u16
+pub fn who_refusal(words: usize, s: Settings, address: u16) -> u16
     ensures { λ r. ⌜ r ≡ whoRefusal words s address ⌝ }
 {
     let number = replay_refusal(words, s);

@@ -11,11 +11,11 @@ use Rattle.memory.specs.Kind.{kindNumbered}
 use Rattle.text.proofs.Runs.{length-hex}
 use Rattle.text.proofs.Numerals.{decimal-most}
 use Rattle.label_text.proofs.Most.{kind-most, either-most, refused-most}
-use Rattle.who.specs.declared.origin.Part.{Part}
-use Rattle.who.specs.declared.origin.Part.the-variants.{Data, Pointer, Stack, StackPointer}
-use Rattle.who.specs.declared.origin.Origin.{Origin}
-use Rattle.who.specs.declared.origin.Who.{Who}
-use Rattle.who.specs.declared.origin.Who.the-variants.{Refused, AsInImage, Written}
+use Rattle.origin.specs.declared.origin.Part.{Part}
+use Rattle.origin.specs.declared.origin.Part.the-variants.{Data, Pointer, Stack, StackPointer}
+use Rattle.origin.specs.declared.origin.Origin.{Origin}
+use Rattle.origin.specs.declared.origin.Who.{Who}
+use Rattle.origin.specs.declared.origin.Who.the-variants.{Refused, AsInImage, Written}
 use Rattle.who_text.specs.Line.{cellName, stackName, dataText, pointerText, stackText, partText, originLine, answerLine, whoLine}
 
 cell-most : (cell : ℕ) → length (cellName cell) ≤ 41

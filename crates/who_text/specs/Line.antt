@@ -7,11 +7,11 @@ use Rattle.memory.specs.Kind.{kindNumbered}
 use Rattle.text.specs.Text.{hexText, decimalText, newline}
 use Rattle.text.specs.Line.{column}
 use Rattle.label_text.specs.Wording.{kindName, comma, refusedLine}
-use Rattle.who.specs.declared.origin.Part.{Part}
-use Rattle.who.specs.declared.origin.Part.the-variants.{Data, Pointer, Stack, StackPointer}
-use Rattle.who.specs.declared.origin.Origin.{Origin}
-use Rattle.who.specs.declared.origin.Who.{Who}
-use Rattle.who.specs.declared.origin.Who.the-variants.{Refused, AsInImage, Written}
+use Rattle.origin.specs.declared.origin.Part.{Part}
+use Rattle.origin.specs.declared.origin.Part.the-variants.{Data, Pointer, Stack, StackPointer}
+use Rattle.origin.specs.declared.origin.Origin.{Origin}
+use Rattle.origin.specs.declared.origin.Who.{Who}
+use Rattle.origin.specs.declared.origin.Who.the-variants.{Refused, AsInImage, Written}
 
 -- ` subaddress`
 abbrev pub subaddressName : List ℕ

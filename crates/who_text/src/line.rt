@@ -4,13 +4,13 @@ ghost use Rattle.who_text.specs.Line.{cellName, stackName, dataText, poi
 use label::cell::kind_numbered;
 use label_text::wording::put_kind;
 use label_text::wording::put_refused;
+use origin::origin::Origin;
+use origin::origin::Part;
+use origin::origin::Who;
 use text::line::put_hex_word;
 use text::line::put_newline;
 use text::line::put_number;
 use text::text::put_bytes;
-use who::origin::Origin;
-use who::origin::Part;
-use who::origin::Who;
 
 // A cell by its kind and its subaddress.
 fn put_cell_name(out: &mut [u8], at: usize, cell: u16) -> usize

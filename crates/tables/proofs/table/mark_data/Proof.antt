@@ -5,7 +5,7 @@ use mathlib.Core.Path.{_≡_, refl}
 use Rattle.memory.specs.Writes.{applyWrites, writesTo}
 use Rattle.memory.proofs.Writes.{apply-more, length-apply}
 use Rattle.windows.specs.Window.{placeOf}
-use Rattle.who.specs.declared.origin.Part.the-variants.{Data}
+use Rattle.origin.specs.declared.origin.Part.the-variants.{Data}
 use Rattle.tables.specs.Mark.{markOf}
 use native.Mathlib.Omega.{arith}
 use Rattle.tables.proofs.table.mark_data.Statement.{statement}

@@ -4,7 +4,7 @@ use Prim.Native.Nat.{_+_, _-_, _≤_}
 use mathlib.Core.Path.{_≡_, refl}
 use Rattle.memory.specs.Writes.{applyWrites, writesTo}
 use Rattle.memory.proofs.Writes.{apply-more, length-apply}
-use Rattle.who.specs.declared.origin.Part.the-variants.{Stack}
+use Rattle.origin.specs.declared.origin.Part.the-variants.{Stack}
 use Rattle.tables.specs.Mark.{markOf}
 use Rattle.tables.specs.Table.{stackMarks}
 use native.Mathlib.Omega.{arith}

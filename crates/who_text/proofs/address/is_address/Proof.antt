@@ -33,7 +33,22 @@ both-requires-4 c κs = search needs
 
 returns : tie.Need-returns
 unfolding isAddress
-returns c = cc
+returns c = let newline = c .before in
+    let low = newline .before .before in
+    let fourth = low .before in
+    let high = fourth .before .before in
+    let second = high .before in
+    rw (
+      c .both4 .ensures,
+      newline .byte-at .ensures,
+      newline .before .both3 .ensures,
+      low .both2 .ensures,
+      fourth .digit-at4 .ensures,
+      fourth .before .digit-at3 .ensures,
+      high .both .ensures,
+      second .digit-at2 .ensures,
+      second .before .digit-at .ensures,
+    )
 
 pub is-address-spec : {M : Type 1} → statement M
 is-address-spec =

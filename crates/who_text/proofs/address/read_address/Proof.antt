@@ -27,7 +27,18 @@ pick-requires c κs = search needs
 
 returns : tie.Need-returns
 unfolding addressIn
-returns c = cc
+returns c = let four = c .before in
+    let fourth = four .before in
+    let second = fourth .before .before in
+    rw (
+      c .pick .ensures,
+      four .four-digits .ensures,
+      fourth .digit-at4 .ensures,
+      fourth .before .digit-at3 .ensures,
+      second .digit-at2 .ensures,
+      second .before .digit-at .ensures,
+      second .before .before .is-address .ensures,
+    )
 
 pub read-address-spec : {M : Type 1} → statement M
 read-address-spec =

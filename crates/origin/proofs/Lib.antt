@@ -1,0 +1,3 @@
+pub mod Last
+pub mod Placed
+pub mod Determined

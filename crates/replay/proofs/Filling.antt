@@ -1,0 +1,72 @@
+-- One record of the tables, from what was taken of it; and records one after the other.
+use Prim.Native.Nat.{ℕ, _+_}
+use native.Mathlib.Numerals.{add-one}
+use mathlib.Core.Path.{_≡_, refl, sym, _∙_}
+use mathlib.Core.List.{List, [], _∷_, _++_}
+use borrow.Author.Tests.{eq-eqb, ne-eqb}
+use Rattle.words.specs.declared.settings.Settings.{Settings}
+use Rattle.words.specs.declared.remembered.Remembered.{Remembered}
+use Rattle.memory.specs.State.{State}
+use Rattle.memory.specs.Writes.{applyWrites}
+use Rattle.decide.specs.declared.plan.Plan.{Plan}
+use Rattle.message.specs.Heard.{Heard, heardBytes}
+use Rattle.message.specs.Tests.{refusalFor}
+use Rattle.message.specs.Message.{carriedOut, step}
+use Rattle.message.proofs.Refusals.{refused-state, accepted-state}
+use Rattle.trace.specs.Walk.{recordAt, nextNumber}
+use Rattle.replay.specs.declared.taken.Taken.{Taken}
+use Rattle.replay.specs.declared.taken.Taken.the-variants.{Passed, Carried}
+use Rattle.replay.specs.Taken.{takenOf}
+use Rattle.who.specs.Replay.{heardTo}
+use Rattle.tables.specs.Mark.{markOf}
+use Rattle.tables.specs.Table.{markWrites, marksIn, Tables, tablesOf, terminalAt, fillRecord, fillAll}
+use Rattle.replay.proofs.Taking.{taken-passed, taken-carried}
+
+module _ (s : Settings) (h : Heard) (t : Tables) (k : Taken) (e : k ≡ takenOf s h (terminalAt t)) where
+  abbrev x : State
+  x = terminalAt t
+
+  pub fill-passed :
+      (m : List ℕ) (n : ℕ) →
+      k ≡ Passed →
+      m ≡ step s h x .ram →
+      n ≡ nextNumber (t .at .number) →
+      tablesOf m (t .numbers) (t .marks) (record { remembered = t .at .remembered; number = n }) ≡ fillRecord s h t
+  unfolding fillRecord marksIn applyWrites
+  fill-passed m n told left counted =
+      let f = taken-passed s h x (sym e ∙ told) in
+      rw (left, counted, refused-state s h x f, ne-eqb (refusalFor s h x) 0 f)
+
+  pub fill-carried :
+      (p : Plan) (r : Remembered) (m numbers marks : List ℕ) (n : ℕ) →
+      k ≡ Carried p r →
+      m ≡ step s h x .ram →
+      n ≡ nextNumber (t .at .number) →
+      numbers ≡ applyWrites (markWrites (λ part. n) s p) (t .numbers) →
+      marks ≡ applyWrites (markWrites (markOf (p .deed .cell)) s p) (t .marks) →
+      tablesOf m numbers marks (record { remembered = r; number = n }) ≡ fillRecord s h t
+  unfolding fillRecord marksIn carriedOut
+  fill-carried p r m numbers marks n told left counted numbered marked =
+      let f = taken-carried s h x p r (sym e ∙ told) in
+      rw (
+        left,
+        numbered,
+        marked,
+        counted,
+        f .plan,
+        f .remembered,
+        accepted-state s h x (f .number),
+        eq-eqb (refusalFor s h x) 0 (f .number),
+      )
+
+-- two lists of records one after the other
+pub fill-append : (s : Settings) (hs ys : List Heard) (t : Tables) → fillAll s (hs ++ ys) t ≡ fillAll s ys (fillAll s hs t)
+unfolding fillAll
+fill-append s [] ys t = refl
+fill-append s (h ∷ hs) ys t = fill-append s hs ys (fillRecord s h t)
+
+pub fill-more :
+    (s : Settings) (trace : List ℕ) (n : ℕ) (t : Tables) →
+    fillAll s (heardTo trace (n + 1)) t ≡ fillRecord s (heardBytes (recordAt trace n)) (fillAll s (heardTo trace n) t)
+unfolding fillAll heardTo
+fill-more s trace n t = rw add-one (fill-append s (heardTo trace n) (heardBytes (recordAt trace n) ∷ []) t)

@@ -1,0 +1,4 @@
+pub mod Taking
+pub mod Recorded
+pub mod Filling
+pub mod Determined
