@@ -1,9 +1,9 @@
 // The label's words and lines into a lent buffer. Each function answers the place after what it puts there.
 ghost use Rattle.text.specs.Text.{Put};
 ghost use Rattle.label_text.specs.Wording.{kindName, cellText, markText, markedText, meetLine, reasonText, refusedLine};
-use label::cell::kind_numbered;
 use label::one::Sharer;
 use memory::kind::Kind;
+use spans::numbered::kind_numbered;
 use text::line::put_newline;
 use text::line::put_number;
 use text::text::put_bytes;

@@ -6,7 +6,7 @@ use mathlib.Core.Path.{_≡_, refl, _∙_}
 use mathlib.Core.Logic.{⊎-elim}
 use lib.ListN.{replicate}
 use Rattle.label.specs.Listing.{passing}
-use Rattle.label.specs.Span.{otherMeets}
+use Rattle.spans.specs.Span.{otherMeets}
 use Rattle.label.specs.Label.{sharerNumbered, noSharer}
 use Rattle.label.proofs.Turns.{Run, run-starts, run-put, run-passed, sharers-told}
 use Rattle.label.proofs.Most.{listed-fits}

@@ -5,9 +5,9 @@ use Prim.Native.Nat.{_-_, _≤_}
 use mathlib.Core.Path.{_≡_, refl}
 use Rattle.words.specs.Fill.{fill, fillFrom}
 use Rattle.words.proofs.Fill.{fill-more}
-use Rattle.label.specs.Span.{spanOf}
-use Rattle.label.proofs.span.read_spans.Statement.{statement}
-use Rattle.label.proofs.span.read_spans.Tie as tie
+use Rattle.spans.specs.Span.{spanOf}
+use Rattle.spans.proofs.span.read_spans.Statement.{statement}
+use Rattle.spans.proofs.span.read_spans.Tie as tie
 
 abbrev Inv-loop : tie.InvT-loop
 Inv-loop ram s starts₀ ends₀ stack number₀ starts ends number =

@@ -1,8 +1,8 @@
 -- `kind_numbered` meets its contract: below 32, below 64, and else.
 use borrow.Author.Tests.{lt-ltb, le-ltb}
 use Rattle.memory.specs.Kind.{kindNumbered}
-use Rattle.label.proofs.cell.kind_numbered.Statement.{statement}
-use Rattle.label.proofs.cell.kind_numbered.Tie as tie
+use Rattle.spans.proofs.numbered.kind_numbered.Statement.{statement}
+use Rattle.spans.proofs.numbered.kind_numbered.Tie as tie
 
 returns : tie.Need-returns
 unfolding kindNumbered

@@ -1,9 +1,9 @@
 -- `span_of` meets its contract: a cell that is not read, one that is not sound, and one that takes part.
 use borrow.Author.Needs.{needs}
 use borrow.Author.Tests.{not-true, not-false}
-use Rattle.label.specs.Span.{readAndSound, spanOf}
-use Rattle.label.proofs.span.span_of.Statement.{statement}
-use Rattle.label.proofs.span.span_of.Tie as tie
+use Rattle.spans.specs.Span.{readAndSound, spanOf}
+use Rattle.spans.proofs.span.span_of.Statement.{statement}
+use Rattle.spans.proofs.span.span_of.Tie as tie
 
 is-read-requires : tie.Need-is-read-requires
 is-read-requires c κs = search needs

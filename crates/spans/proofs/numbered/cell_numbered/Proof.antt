@@ -1,8 +1,8 @@
 -- `cell_numbered` meets its contract: the cell of its kind and subaddress.
 use borrow.Author.Needs.{needs}
 use Rattle.area.specs.Area.{cellNumbered}
-use Rattle.label.proofs.cell.cell_numbered.Statement.{statement}
-use Rattle.label.proofs.cell.cell_numbered.Tie as tie
+use Rattle.spans.proofs.numbered.cell_numbered.Statement.{statement}
+use Rattle.spans.proofs.numbered.cell_numbered.Tie as tie
 
 kind-numbered-requires : tie.Need-kind-numbered-requires
 kind-numbered-requires c κs = search needs

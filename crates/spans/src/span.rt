@@ -1,9 +1,9 @@
 // The windows of all cells, read once: where each begins and where it ends. A cell that is not read or not sound has
 // none.
 ghost use mathlib.Core.Path.{_≡_};
-ghost use Rattle.label.specs.Span.{spanOfWindow, spanOf, startsInto, endsInto, spansMeet};
-use crate::cell::cell_numbered;
-use crate::cell::is_read;
+ghost use Rattle.spans.specs.Span.{spanOfWindow, spanOf, startsInto, endsInto, spansMeet};
+use crate::numbered::cell_numbered;
+use crate::numbered::is_read;
 use cells::cell::sound_cell;
 use cells::cell::window_of;
 use cells::stack::stack_window;
@@ -12,7 +12,7 @@ use words::choose::both;
 use words::settings::Settings;
 
 // The addresses from `start` up to `end`, which is not one of them.
-pub(crate) struct Span {
+pub struct Span {
     pub start: u32,
     pub end: u32,
 }
@@ -42,14 +42,14 @@ fn span_of(ram: &[u16], s: Settings, stack: Window, number: u16) -> Span
     span_of_window(window_of(scheme, c.pointer))
 }
 
-pub(crate) fn spans_meet(v: Span, w: Span) -> bool
+pub fn spans_meet(v: Span, w: Span) -> bool
     ensures { λ r. ⌜ r ≡ spansMeet v w ⌝ }
 {
     both(v.start < w.end, w.start < v.end)
 }
 
 // The span of each cell, at its number.
-pub(crate) fn read_spans(ram: &[u16], s: Settings, starts: &mut [u32; 96], ends: &mut [u32; 96])
+pub fn read_spans(ram: &[u16], s: Settings, starts: &mut [u32; 96], ends: &mut [u32; 96])
     ensures starts { λ r. ⌜ now (starts .exit) ≡ startsInto (now (ram .entry)) s (now (starts .entry)) ⌝ }
     ensures ends { λ r. ⌜ now (ends .exit) ≡ endsInto (now (ram .entry)) s (now (ends .entry)) ⌝ }
 {

@@ -11,7 +11,7 @@ use Rattle.words.specs.Fill.{fill}
 use Rattle.cells.specs.Stack.{stackWindow}
 use Rattle.cells.specs.Cell.{cellWindow, soundCell}
 use Rattle.area.specs.Area.{isRead, cellNumbered}
-use Rattle.label.specs.declared.span.Span.{Span}
+use Rattle.spans.specs.declared.span.Span.{Span}
 
 -- the window of the cell with this number
 abbrev pub windowNumbered : List ℕ → Settings → ℕ → Window

@@ -1,8 +1,8 @@
 -- `spans_meet` meets its contract: the same tests.
 use borrow.Author.Needs.{needs}
-use Rattle.label.specs.Span.{spansMeet}
-use Rattle.label.proofs.span.spans_meet.Statement.{statement}
-use Rattle.label.proofs.span.spans_meet.Tie as tie
+use Rattle.spans.specs.Span.{spansMeet}
+use Rattle.spans.proofs.span.spans_meet.Statement.{statement}
+use Rattle.spans.proofs.span.spans_meet.Tie as tie
 
 both-requires : tie.Need-both-requires
 both-requires c κs = search needs

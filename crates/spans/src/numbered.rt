@@ -3,8 +3,8 @@ ghost use mathlib.Core.Path.{_≡_};
 ghost use Prim.Native.Nat.{_≤_};
 ghost use Rattle.memory.specs.Kind.{kindNumbered};
 ghost use Rattle.area.specs.Area.{isRead, cellNumbered};
-ghost use Rattle.label.specs.Span.{readEnd};
-ghost use Rattle.label.specs.Label.{ableToWrite};
+ghost use Rattle.spans.specs.Span.{readEnd};
+ghost use Rattle.spans.specs.Mark.{ableToWrite};
 use cells::cell::Cell;
 use cells::cell::cell_at;
 use memory::kind::Kind;
@@ -26,7 +26,7 @@ pub fn kind_numbered(number: u16) -> Kind
 }
 
 // Receive and broadcast cells are written to; a transmit cell only sends.
-pub(crate) fn able_to_write(kind: Kind) -> bool
+pub fn able_to_write(kind: Kind) -> bool
     ensures { λ r. ⌜ r ≡ ableToWrite kind ⌝ }
 {
     match kind {
@@ -46,7 +46,7 @@ pub fn is_read(s: Settings, number: u16) -> bool
 }
 
 // No cell from this number on is read.
-pub(crate) fn read_end(s: Settings) -> u16
+pub fn read_end(s: Settings) -> u16
     ensures { λ r. ⌜ (r ≡ readEnd s) × (r ≤ 96) ⌝ }
 {
     if has_broadcast_cells(s) { 96 } else { 64 }

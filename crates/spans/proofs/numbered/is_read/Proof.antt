@@ -1,8 +1,8 @@
 -- `is_read` meets its contract: the same tests.
 use borrow.Author.Needs.{needs}
 use Rattle.area.specs.Area.{isRead}
-use Rattle.label.proofs.cell.is_read.Statement.{statement}
-use Rattle.label.proofs.cell.is_read.Tie as tie
+use Rattle.spans.proofs.numbered.is_read.Statement.{statement}
+use Rattle.spans.proofs.numbered.is_read.Tie as tie
 
 both-requires : tie.Need-both-requires
 both-requires c κs = search needs

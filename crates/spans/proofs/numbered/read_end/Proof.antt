@@ -1,8 +1,8 @@
 -- `read_end` meets its contract: the same choice.
 use borrow.Author.Needs.{needs}
 use native.Mathlib.Omega.{arith}
-use Rattle.label.proofs.cell.read_end.Statement.{statement}
-use Rattle.label.proofs.cell.read_end.Tie as tie
+use Rattle.spans.proofs.numbered.read_end.Statement.{statement}
+use Rattle.spans.proofs.numbered.read_end.Tie as tie
 
 has-broadcast-cells-requires : tie.Need-has-broadcast-cells-requires
 has-broadcast-cells-requires c κs = search needs
