@@ -42,9 +42,9 @@ use Rattle.view.proofs.Views.{taken-none, taken-some}
 use Rattle.message.proofs.FromBytes.{record-number}
 use Rattle.lent.specs.Over.{over}
 use Rattle.boundary.specs.Check.{checkWord}
-use Rattle.lent.specs.Values.{valueWords}
+use Rattle.lent_messages.specs.Values.{valueWords}
 use Rattle.boundary.specs.Call.{Lent, lentOf, stateIn, callNumber, lentAfter}
-use Rattle.lent.specs.Labels.{listingWords, countWords}
+use Rattle.lent_labels.specs.Labels.{listingWords, countWords}
 use Rattle.boundary.proofs.Refused.{message-refused, read-refused, write-refused, label-cell-refused, counts-refused, unsound-refused, pairs-refused}
 use Rattle.boundary.proofs.Halves.{upper-half, lower-half}
 use Rattle.demands.specs.First.{writerTests, ExportedAnswered, TakeAnswered, rising, Answered, MessageAnswered, CheckAnswered, ReadAnswered, WriteAnswered}

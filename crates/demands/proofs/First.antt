@@ -16,7 +16,7 @@ use Rattle.who.proofs.question
 use Rattle.tables.proofs.table
 use Rattle.view.proofs.view
 use Rattle.lent.specs.Setup.{settingsFrom}
-use Rattle.lent.specs.Values.{valueFrom}
+use Rattle.lent_messages.specs.Values.{valueFrom}
 use Rattle.boundary.specs.Origins.{lentTablesOf}
 use Rattle.boundary.proofs.calls
 use Rattle.boundary.proofs.origins
