@@ -1,8 +1,8 @@
 // The answer about an address as a line, into a lent buffer. Each function answers the place after what it puts there.
 ghost use Rattle.text.specs.Text.{Put};
 ghost use Rattle.who_text.specs.Line.{cellName, stackName, dataText, pointerText, stackText, partText, originLine, answerLine, whoLine};
-use label_text::wording::put_kind;
-use label_text::wording::put_refused;
+use label_words::wording::put_kind;
+use label_words::wording::put_refused;
 use spans::numbered::kind_numbered;
 use text::line::put_hex_word;
 use text::line::put_newline;

@@ -1,9 +1,9 @@
 -- `put_marked` meets its contract.
 use borrow.Author.Needs.{needs}
-use Rattle.label_text.specs.Wording.{markedText}
+use Rattle.label_words.specs.Wording.{markedText}
 use Rattle.text.proofs.Runs.{put-then}
-use Rattle.label_text.proofs.wording.put_marked.Statement.{statement}
-use Rattle.label_text.proofs.wording.put_marked.Tie as tie
+use Rattle.label_words.proofs.wording.put_marked.Statement.{statement}
+use Rattle.label_words.proofs.wording.put_marked.Tie as tie
 
 put-cell-requires : tie.Need-put-cell-requires
 put-cell-requires c κs = search needs

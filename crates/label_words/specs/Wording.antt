@@ -1,4 +1,5 @@
--- The words of the label: a cell by its kind and subaddress, its mark, and the lines. Text is ASCII.
+-- The words of the label: a cell by its kind and subaddress, its mark, and the lines of two cells, of the unsound ones
+-- and of a refusal. Text is ASCII.
 use Prim.Native.Nat.{ℕ, _%_}
 use mathlib.Core.Bool.{Bool, true, false, cond}
 use mathlib.Core.List.{List, [], _∷_, _++_, flatMap}
@@ -10,8 +11,6 @@ use Rattle.memory.specs.Kind.{kindNumbered}
 use Rattle.text.specs.Text.{decimalText, newline}
 use Rattle.text.specs.Line.{column}
 use Rattle.label.specs.declared.one.Sharer.{Sharer}
-use Rattle.label.specs.Listing.{Pair}
-use Rattle.label.specs.Label.{sharerNumbered}
 
 -- `receive`, `transmit`, `broadcast`
 abbrev pub kindName : Kind → List ℕ
@@ -39,10 +38,6 @@ meetsName = 32 ∷ 109 ∷ 101 ∷ 101 ∷ 116 ∷ 115 ∷ 32 ∷ []
 -- a line for two cells whose windows meet: `receive 19 (writes) meets transmit 4 (sends)`
 unfoldable pub meetLine : Sharer → Sharer → List ℕ
 meetLine cell other = markedText cell ++ meetsName ++ markedText other ++ newline
-
--- "lower number first"
-abbrev pub pairLine : Pair → List ℕ
-pairLine p = meetLine (sharerNumbered (p .lower)) (sharerNumbered (p .higher))
 
 -- `unsound: ` and `, `
 abbrev pub unsoundName : List ℕ

@@ -1,9 +1,9 @@
 -- `put_meeting` meets its contract.
 use borrow.Author.Needs.{needs}
-use Rattle.label_text.specs.Wording.{meetLine}
+use Rattle.label_words.specs.Wording.{meetLine}
 use Rattle.text.proofs.Runs.{put-then}
-use Rattle.label_text.proofs.wording.put_meeting.Statement.{statement}
-use Rattle.label_text.proofs.wording.put_meeting.Tie as tie
+use Rattle.label_words.proofs.wording.put_meeting.Statement.{statement}
+use Rattle.label_words.proofs.wording.put_meeting.Tie as tie
 
 put-marked-requires : tie.Need-put-marked-requires
 put-marked-requires c κs = search needs

@@ -1,9 +1,9 @@
 -- `put_cell` meets its contract.
 use borrow.Author.Needs.{needs}
-use Rattle.label_text.specs.Wording.{cellText}
+use Rattle.label_words.specs.Wording.{cellText}
 use Rattle.text.proofs.Runs.{put-then}
-use Rattle.label_text.proofs.wording.put_cell.Statement.{statement}
-use Rattle.label_text.proofs.wording.put_cell.Tie as tie
+use Rattle.label_words.proofs.wording.put_cell.Statement.{statement}
+use Rattle.label_words.proofs.wording.put_cell.Tie as tie
 
 kind-numbered-requires : tie.Need-kind-numbered-requires
 kind-numbered-requires c κs = search needs

@@ -1,7 +1,7 @@
 -- `put_mark` meets its contract, by the mark.
 use borrow.Author.Needs.{needs}
-use Rattle.label_text.proofs.wording.put_mark.Statement.{statement}
-use Rattle.label_text.proofs.wording.put_mark.Tie as tie
+use Rattle.label_words.proofs.wording.put_mark.Statement.{statement}
+use Rattle.label_words.proofs.wording.put_mark.Tie as tie
 
 slice-aggregate-put-bytes : tie.Need-slice-aggregate-put-bytes
 slice-aggregate-put-bytes c = search needs

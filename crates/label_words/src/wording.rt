@@ -1,6 +1,6 @@
 // The label's words and lines into a lent buffer. Each function answers the place after what it puts there.
 ghost use Rattle.text.specs.Text.{Put};
-ghost use Rattle.label_text.specs.Wording.{kindName, cellText, markText, markedText, meetLine, reasonText, refusedLine};
+ghost use Rattle.label_words.specs.Wording.{kindName, cellText, markText, markedText, meetLine, reasonText, refusedLine};
 use label::one::Sharer;
 use memory::kind::Kind;
 use spans::numbered::kind_numbered;
@@ -23,7 +23,7 @@ pub fn put_kind(out: &mut [u8], at: usize, kind: Kind) -> usize
 }
 
 // A cell by its kind and its subaddress.
-pub(crate) fn put_cell(out: &mut [u8], at: usize, number: u16) -> usize
+pub fn put_cell(out: &mut [u8], at: usize, number: u16) -> usize
     ensures { λ r. ⌜ Put (now (out .entry)) at (cellText number) (now (out .exit)) r ⌝ }
 {
     let next = put_kind(out, at, kind_numbered(number));
@@ -48,7 +48,7 @@ fn put_marked(out: &mut [u8], at: usize, sharer: Sharer) -> usize
 }
 
 // The line of two cells whose windows meet.
-pub(crate) fn put_meeting(out: &mut [u8], at: usize, cell: Sharer, other: Sharer) -> usize
+pub fn put_meeting(out: &mut [u8], at: usize, cell: Sharer, other: Sharer) -> usize
     ensures { λ r. ⌜ Put (now (out .entry)) at (meetLine cell other) (now (out .exit)) r ⌝ }
 {
     let meets = put_marked(out, at, cell);

@@ -1,9 +1,9 @@
 -- `put_reason` meets its contract: the first number that it is.
 use borrow.Author.Needs.{needs}
 use borrow.Author.Tests.{eq-eqb, ne-eqb}
-use Rattle.label_text.specs.Wording.{reasonText}
-use Rattle.label_text.proofs.wording.put_reason.Statement.{statement}
-use Rattle.label_text.proofs.wording.put_reason.Tie as tie
+use Rattle.label_words.specs.Wording.{reasonText}
+use Rattle.label_words.proofs.wording.put_reason.Statement.{statement}
+use Rattle.label_words.proofs.wording.put_reason.Tie as tie
 
 slice-aggregate-put-bytes : tie.Need-slice-aggregate-put-bytes
 slice-aggregate-put-bytes c = search needs

@@ -1,9 +1,9 @@
 -- `put_refused` meets its contract.
 use borrow.Author.Needs.{needs}
-use Rattle.label_text.specs.Wording.{refusedLine}
+use Rattle.label_words.specs.Wording.{refusedLine}
 use Rattle.text.proofs.Runs.{put-then}
-use Rattle.label_text.proofs.wording.put_refused.Statement.{statement}
-use Rattle.label_text.proofs.wording.put_refused.Tie as tie
+use Rattle.label_words.proofs.wording.put_refused.Statement.{statement}
+use Rattle.label_words.proofs.wording.put_refused.Tie as tie
 
 slice-aggregate-put-bytes : tie.Need-slice-aggregate-put-bytes
 slice-aggregate-put-bytes c = search needs

@@ -1,7 +1,7 @@
 -- `put_kind` meets its contract: a name for each kind.
 use borrow.Author.Needs.{needs}
-use Rattle.label_text.proofs.wording.put_kind.Statement.{statement}
-use Rattle.label_text.proofs.wording.put_kind.Tie as tie
+use Rattle.label_words.proofs.wording.put_kind.Statement.{statement}
+use Rattle.label_words.proofs.wording.put_kind.Tie as tie
 
 enum-told : tie.Need-enum-told
 enum-told c = search needs
