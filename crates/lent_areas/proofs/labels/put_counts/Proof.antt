@@ -1,9 +1,9 @@
 -- `put_counts` meets its contract: two words in a row.
 use borrow.Author.Needs.{needs}
-use Rattle.lent_labels.specs.Labels.{countWords}
+use Rattle.lent_areas.specs.Labels.{countWords}
 use Rattle.lent.proofs.Order.{two-back}
-use Rattle.lent_labels.proofs.labels.put_counts.Statement.{statement}
-use Rattle.lent_labels.proofs.labels.put_counts.Tie as tie
+use Rattle.lent_areas.proofs.labels.put_counts.Statement.{statement}
+use Rattle.lent_areas.proofs.labels.put_counts.Tie as tie
 
 put-requires : tie.Need-put-requires
 put-requires c κs = search needs

@@ -7,8 +7,8 @@ use lib.ListN.{length, getD}
 use Rattle.words.specs.Fill.{fillFrom, fill}
 use Rattle.words.proofs.Fill.{fill-more}
 use Rattle.lent.proofs.Room.{put-all}
-use Rattle.lent_labels.proofs.labels.put_cells.Statement.{statement}
-use Rattle.lent_labels.proofs.labels.put_cells.Tie as tie
+use Rattle.lent_areas.proofs.labels.put_cells.Statement.{statement}
+use Rattle.lent_areas.proofs.labels.put_cells.Tie as tie
 
 abbrev Inv-loop : tie.InvT-loop
 Inv-loop xs₀ cells room k₀ xs k = (k ≤ 90) × ((length xs ≡ length xs₀) × (xs ≡ fill (λ j. getD cells j 0) xs₀ k))

@@ -1,9 +1,9 @@
 -- `put_cell` meets its contract: eight words in a row.
 use borrow.Author.Needs.{needs}
-use Rattle.lent_labels.specs.Descriptions.{cellWords}
+use Rattle.lent_areas.specs.Descriptions.{cellWords}
 use Rattle.lent.proofs.Order.{eight-back}
-use Rattle.lent_labels.proofs.descriptions.put_cell.Statement.{statement}
-use Rattle.lent_labels.proofs.descriptions.put_cell.Tie as tie
+use Rattle.lent_areas.proofs.descriptions.put_cell.Statement.{statement}
+use Rattle.lent_areas.proofs.descriptions.put_cell.Tie as tie
 
 put-four-requires : tie.Need-put-four-requires
 put-four-requires c κs = search needs

@@ -1,7 +1,7 @@
 // What a cell and the stack are like, as plain words.
 ghost use mathlib.Core.Path.{_≡_};
 ghost use Rattle.lent.specs.Over.{over};
-ghost use Rattle.lent_labels.specs.Descriptions.{cellWords, stackWords};
+ghost use Rattle.lent_areas.specs.Descriptions.{cellWords, stackWords};
 use described::cell::CellDescription;
 use described::stack::StackDescription;
 use lent::over::put_four;

@@ -10,7 +10,7 @@ use Rattle.words.proofs.Basics.{eq-or-ne}
 use Rattle.area.specs.Area.{checkArea}
 use Rattle.area.proofs.Listed.{read-listed}
 use Rattle.area.proofs.Whole.{area-unsound, area-no-cell}
-use Rattle.boundary.specs.Check.{checkWord}
+use Rattle.lent_areas.specs.Check.{checkWord}
 
 module _ (ram : List ℕ) (s : Settings) where
   cell-low : checkArea ram s .cell < 96

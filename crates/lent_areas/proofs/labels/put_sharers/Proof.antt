@@ -5,10 +5,10 @@ use Prim.Native.Nat.{_-_, _≤_}
 use mathlib.Core.Path.{_≡_, refl, sym, _∙_}
 use lib.ListN.{length}
 use lib.Seq.{sets}
-use Rattle.lent_labels.specs.Labels.{sharerWords}
-use Rattle.lent_labels.proofs.Listed.{withRest, rest-next, rest-none}
-use Rattle.lent_labels.proofs.labels.put_sharers.Statement.{statement}
-use Rattle.lent_labels.proofs.labels.put_sharers.Tie as tie
+use Rattle.lent_areas.specs.Labels.{sharerWords}
+use Rattle.lent_areas.proofs.Listed.{withRest, rest-next, rest-none}
+use Rattle.lent_areas.proofs.labels.put_sharers.Statement.{statement}
+use Rattle.lent_areas.proofs.labels.put_sharers.Tie as tie
 
 abbrev Inv-loop : tie.InvT-loop
 Inv-loop xs₀ cells k₀ xs k = (k ≤ 89) × ((length xs ≡ length xs₀) × (withRest cells xs k ≡ sets xs₀ 1 (sharerWords cells)))

@@ -8,7 +8,7 @@ use lib.ListN.{length, getD, set, drop, drop-of-length-le}
 use lib.Seq.{sets, drop-cons}
 use Rattle.words.specs.Bits.{bitOf}
 use Rattle.label.specs.declared.one.Sharer.{Sharer}
-use Rattle.lent_labels.specs.Labels.{sharerWords}
+use Rattle.lent_areas.specs.Labels.{sharerWords}
 
 -- the words of the cells from the k-th on, put where they belong
 abbrev pub withRest : List Sharer → List ℕ → ℕ → List ℕ

@@ -3,8 +3,12 @@
 -- from its function.
 use mathlib.Core.Path.{refl}
 use Rattle.words.proofs.Settled.{determined, Settled}
-use Rattle.lent_labels.proofs.descriptions
-use Rattle.lent_labels.proofs.labels
+use Rattle.lent_areas.proofs.checks
+use Rattle.lent_areas.proofs.descriptions
+use Rattle.lent_areas.proofs.labels
+
+pub check-word-settled : Settled 0 checks.check_word.Kinds.ps checks.check_word.Kinds.r checks.check_word.Reads.Post
+check-word-settled κs a x y v w p q = (determined p q, refl)
 
 pub put-listing-settled : Settled 1 labels.put_listing.Kinds.ps labels.put_listing.Kinds.r labels.put_listing.Reads.Post
 put-listing-settled κs a x y v w p q = (refl, λ i. (determined p q i, v .1))

@@ -2,7 +2,7 @@
 ghost use mathlib.Core.Path.{_≡_};
 ghost use lib.Seq.{sets};
 ghost use Rattle.lent.specs.Over.{over};
-ghost use Rattle.lent_labels.specs.Labels.{sharerWords, listingWords, countWords};
+ghost use Rattle.lent_areas.specs.Labels.{sharerWords, listingWords, countWords};
 use label::one::CellLabel;
 use label::one::Sharer;
 use label::whole::AreaLabel;

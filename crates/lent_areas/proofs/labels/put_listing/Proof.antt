@@ -1,8 +1,8 @@
 -- `put_listing` meets its contract: how many, and then each.
 use borrow.Author.Needs.{needs}
-use Rattle.lent_labels.specs.Labels.{listingWords}
-use Rattle.lent_labels.proofs.labels.put_listing.Statement.{statement}
-use Rattle.lent_labels.proofs.labels.put_listing.Tie as tie
+use Rattle.lent_areas.specs.Labels.{listingWords}
+use Rattle.lent_areas.proofs.labels.put_listing.Statement.{statement}
+use Rattle.lent_areas.proofs.labels.put_listing.Tie as tie
 
 put-requires : tie.Need-put-requires
 put-requires c κs = search needs

@@ -1,8 +1,8 @@
 -- `put_stack` meets its contract: four words in a row.
 use borrow.Author.Needs.{needs}
-use Rattle.lent_labels.specs.Descriptions.{stackWords}
-use Rattle.lent_labels.proofs.descriptions.put_stack.Statement.{statement}
-use Rattle.lent_labels.proofs.descriptions.put_stack.Tie as tie
+use Rattle.lent_areas.specs.Descriptions.{stackWords}
+use Rattle.lent_areas.proofs.descriptions.put_stack.Statement.{statement}
+use Rattle.lent_areas.proofs.descriptions.put_stack.Tie as tie
 
 put-four-requires : tie.Need-put-four-requires
 put-four-requires c κs = search needs
