@@ -11,7 +11,7 @@ use Rattle.message.specs.Message.{answerOf, step}
 use Rattle.message.proofs.Refusals.{number-told}
 use Rattle.lent.specs.Over.{over}
 use Rattle.lent.specs.Setup.{rememberedWords}
-use Rattle.lent.specs.Answers.{answerWords}
+use Rattle.lent_messages.specs.Answers.{answerWords}
 use Rattle.boundary.specs.Call.{Lent, lentOf, stateIn, handedBack, callNumber, lentAfter}
 
 pub called :

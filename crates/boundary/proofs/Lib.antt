@@ -3,5 +3,4 @@ pub mod Filled
 pub mod Refused
 pub mod NotTold
 pub mod NotDescribed
-pub mod Halves
 pub mod Determined

@@ -9,7 +9,7 @@ use Rattle.words.specs.declared.settings.Settings.{Settings}
 use Rattle.words.proofs.Basics.{yes-or-no}
 use Rattle.described.specs.Described.{givenRefusal, describedCell, noCell, cellDescription, describedStack, noStack, stackDescription}
 use Rattle.lent.specs.Over.{over}
-use Rattle.lent.specs.Descriptions.{cellWords, stackWords}
+use Rattle.lent_areas.specs.Descriptions.{cellWords, stackWords}
 
 pub describe-cell-refused :
     (ram : List ℕ) (s : Settings) (cell : ℕ) (xs : List ℕ) →

@@ -22,9 +22,9 @@ use Rattle.message.specs.Answer.{refusedWith}
 use Rattle.message.proofs.Refusals.{refused-answer, refused-state}
 use Rattle.lent.specs.Over.{over}
 use Rattle.lent.specs.Setup.{rememberedFrom, rememberedWords}
-use Rattle.lent.specs.Answers.{answerWords}
-use Rattle.lent.specs.Values.{valueWords}
-use Rattle.lent.specs.Labels.{sharerWords, listingWords, countWords}
+use Rattle.lent_messages.specs.Answers.{answerWords}
+use Rattle.lent_messages.specs.Values.{valueWords}
+use Rattle.lent_areas.specs.Labels.{sharerWords, listingWords, countWords}
 use Rattle.boundary.specs.Call.{Lent, lentOf, stateIn, handedBack, callNumber, lentAfter}
 
 -- words that are read and put back are as they were

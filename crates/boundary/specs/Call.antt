@@ -9,7 +9,7 @@ use Rattle.message.specs.Tests.{refusalFor}
 use Rattle.message.specs.Message.{answerOf, step}
 use Rattle.lent.specs.Over.{over}
 use Rattle.lent.specs.Setup.{rememberedFrom, rememberedWords}
-use Rattle.lent.specs.Answers.{answerWords}
+use Rattle.lent_messages.specs.Answers.{answerWords}
 
 -- what is lent to be written
 pub record Lent : Type 0 where

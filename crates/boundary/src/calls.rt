@@ -7,24 +7,25 @@ ghost use Rattle.label.specs.Label.{cellLabel, areaLabel, pairsInto};
 ghost use Rattle.message.specs.Heard.{heardBytes, heardValue};
 ghost use Rattle.lent.specs.Over.{over};
 ghost use Rattle.lent.specs.Setup.{settingsFrom};
-ghost use Rattle.boundary.specs.Check.{checkWord};
-ghost use Rattle.lent.specs.Values.{valueFrom, valueWords};
-ghost use Rattle.lent.specs.Labels.{listingWords, countWords};
+ghost use Rattle.lent_areas.specs.Check.{checkWord};
+ghost use Rattle.lent_messages.specs.Values.{valueFrom, valueWords};
+ghost use Rattle.lent_areas.specs.Labels.{listingWords, countWords};
 ghost use Rattle.boundary.specs.Call.{lentOf, callNumber, lentAfter};
 use area::area::check_area;
 use label::one::label_cell;
 use label::whole::label_area;
 use layout::reader::read;
 use layout::writer::write;
-use lent::answers::hand_back;
-use lent::labels::put_cells;
-use lent::labels::put_counts;
-use lent::labels::put_listing;
 use lent::over::put_bytes;
 use lent::setup::remembered_from;
 use lent::setup::settings_from;
-use lent::values::put_value;
-use lent::values::value_from;
+use lent_areas::checks::check_word;
+use lent_areas::labels::put_cells;
+use lent_areas::labels::put_counts;
+use lent_areas::labels::put_listing;
+use lent_messages::answers::hand_back;
+use lent_messages::values::put_value;
+use lent_messages::values::value_from;
 use message::serve::message_from_bytes;
 use message::serve::message_from_value;
 
@@ -33,8 +34,7 @@ use message::serve::message_from_value;
 pub extern "C" fn solkverva_check_area(ram: &[u16], settings: &[u16]) -> u32
     ensures { λ r. ⌜ r ≡ checkWord (checkArea (now (ram .entry)) (settingsFrom (now (settings .entry)))) ⌝ }
 {
-    let c = check_area(ram, settings_from(settings));
-    65536 * (c.number as u32) + c.cell as u32
+    check_word(check_area(ram, settings_from(settings)))
 }
 
 // One message from record bytes. The number is the result; the answer's words, the number first, and the remembered

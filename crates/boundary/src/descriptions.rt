@@ -3,12 +3,12 @@ ghost use mathlib.Core.Path.{_≡_};
 ghost use Rattle.described.specs.Described.{cellDescription, stackDescription};
 ghost use Rattle.lent.specs.Over.{over};
 ghost use Rattle.lent.specs.Setup.{settingsFrom};
-ghost use Rattle.lent.specs.Descriptions.{cellWords, stackWords};
+ghost use Rattle.lent_areas.specs.Descriptions.{cellWords, stackWords};
 use described::cell::describe_cell;
 use described::stack::describe_stack;
-use lent::descriptions::put_cell;
-use lent::descriptions::put_stack;
 use lent::setup::settings_from;
+use lent_areas::descriptions::put_cell;
+use lent_areas::descriptions::put_stack;
 
 // A cell by its number, sound or not: where it lies, and why it is unsound.
 #[no_mangle]

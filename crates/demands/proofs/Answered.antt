@@ -41,12 +41,12 @@ use Rattle.view.specs.View.{noneAt, takenAt}
 use Rattle.view.proofs.Views.{taken-none, taken-some}
 use Rattle.message.proofs.FromBytes.{record-number}
 use Rattle.lent.specs.Over.{over}
-use Rattle.boundary.specs.Check.{checkWord}
-use Rattle.lent.specs.Values.{valueWords}
+use Rattle.lent_areas.specs.Check.{checkWord}
+use Rattle.lent_messages.specs.Values.{valueWords}
 use Rattle.boundary.specs.Call.{Lent, lentOf, stateIn, callNumber, lentAfter}
-use Rattle.lent.specs.Labels.{listingWords, countWords}
+use Rattle.lent_areas.specs.Labels.{listingWords, countWords}
 use Rattle.boundary.proofs.Refused.{message-refused, read-refused, write-refused, label-cell-refused, counts-refused, unsound-refused, pairs-refused}
-use Rattle.boundary.proofs.Halves.{upper-half, lower-half}
+use Rattle.lent_areas.proofs.Halves.{upper-half, lower-half}
 use Rattle.demands.specs.First.{writerTests, ExportedAnswered, TakeAnswered, rising, Answered, MessageAnswered, CheckAnswered, ReadAnswered, WriteAnswered}
 
 -- where the number is that of the first test that holds, what is left to show is what a refusal gives back and leaves

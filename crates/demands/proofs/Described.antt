@@ -12,7 +12,7 @@ use Rattle.described.specs.declared.cell.CellDescription.{CellDescription}
 use Rattle.described.specs.declared.stack.StackDescription.{StackDescription}
 use Rattle.described.specs.Described.{givenTests, givenRefusal, describedCell, noCell, cellDescription, describedStack, noStack, stackDescription}
 use Rattle.lent.specs.Over.{over}
-use Rattle.lent.specs.Descriptions.{cellWords, stackWords}
+use Rattle.lent_areas.specs.Descriptions.{cellWords, stackWords}
 use Rattle.boundary.proofs.NotDescribed.{describe-cell-refused, describe-stack-refused}
 use Rattle.demands.specs.First.{Answered}
 use Rattle.demands.proofs.Answered.{answered, by-number}

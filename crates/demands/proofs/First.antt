@@ -17,7 +17,7 @@ use Rattle.replay.proofs.question
 use Rattle.replay.proofs.fill
 use Rattle.view.proofs.view
 use Rattle.lent.specs.Setup.{settingsFrom}
-use Rattle.lent.specs.Values.{valueFrom}
+use Rattle.lent_messages.specs.Values.{valueFrom}
 use Rattle.boundary.specs.Origins.{lentTablesOf}
 use Rattle.boundary.proofs.calls
 use Rattle.boundary.proofs.origins

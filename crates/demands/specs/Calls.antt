@@ -13,7 +13,7 @@ use Rattle.message.specs.Heard.{Heard, heardValue, heardBytes}
 use Rattle.message.proofs.serve
 use Rattle.trace.proofs.walk
 use Rattle.lent.specs.Setup.{settingsFrom}
-use Rattle.lent.specs.Values.{valueFrom}
+use Rattle.lent_messages.specs.Values.{valueFrom}
 use Rattle.boundary.specs.Call.{Lent, lentOf}
 use Rattle.boundary.proofs.calls
 use Rattle.demands.specs.Entry.{Call}

@@ -51,7 +51,7 @@ use Rattle.view.specs.declared.view.Taken.{Taken}
 use Rattle.view.proofs.view
 use Rattle.lent.specs.Over.{over}
 use Rattle.lent.specs.Setup.{settingsFrom}
-use Rattle.lent.specs.Values.{valueFrom}
+use Rattle.lent_messages.specs.Values.{valueFrom}
 use Rattle.boundary.specs.Call.{stateIn}
 use Rattle.boundary.specs.Origins.{lentTablesOf}
 use Rattle.boundary.proofs.calls

@@ -8,9 +8,9 @@ use cells::cell::Cell;
 use cells::cell::Scheme;
 use cells::cell::window_of;
 use cells::stack::stack_window;
-use label::cell::cell_numbered;
-use label::cell::is_read;
 use memory::kind::kind_number;
+use spans::numbered::cell_numbered;
+use spans::numbered::is_read;
 use words::settings::Settings;
 
 // The number that refuses, or 0; then what the cell is: whether the whole-area check reads it, its scheme (1 single,

@@ -3,7 +3,6 @@
 -- reads it (`Reads.Post`), so that none can drift from its function.
 use mathlib.Core.Path.{refl}
 use Rattle.words.proofs.Settled.{determined, Settled}
-use Rattle.label.proofs.cell
 use Rattle.label.proofs.one
 use Rattle.label.proofs.whole
 
@@ -13,15 +12,6 @@ label-cell-settled κs a x y v w p q = (determined p q, refl)
 pub label-area-settled : Settled 2 whole.label_area.Kinds.ps whole.label_area.Kinds.r whole.label_area.Reads.Post
 label-area-settled κs a x y v w p q =
     (determined (p .0) (q .0), λ i. (v .0, (v .1 .0, (determined (p .1) (q .1) i, v .1 .1 .1))))
-
-pub kind-numbered-settled : Settled 0 cell.kind_numbered.Kinds.ps cell.kind_numbered.Kinds.r cell.kind_numbered.Reads.Post
-kind-numbered-settled κs a x y v w p q = (determined p q, refl)
-
-pub is-read-settled : Settled 0 cell.is_read.Kinds.ps cell.is_read.Kinds.r cell.is_read.Reads.Post
-is-read-settled κs a x y v w p q = (determined p q, refl)
-
-pub cell-numbered-settled : Settled 1 cell.cell_numbered.Kinds.ps cell.cell_numbered.Kinds.r cell.cell_numbered.Reads.Post
-cell-numbered-settled κs a x y v w p q = (determined p q, refl)
 
 pub sharer-numbered-settled : Settled 0 one.sharer_numbered.Kinds.ps one.sharer_numbered.Kinds.r one.sharer_numbered.Reads.Post
 sharer-numbered-settled κs a x y v w p q = (determined p q, refl)

@@ -21,9 +21,9 @@ use Rattle.cells.proofs.Sizes.{cell-sized, window-nonempty}
 use Rattle.memory.specs.Kind.{kindNumbered}
 use Rattle.area.specs.Area.{isRead, cellNumbered, isUnsound}
 use Rattle.area.proofs.Listed.{read-listed}
-use Rattle.label.specs.declared.span.Span.{Span}
+use Rattle.spans.specs.declared.span.Span.{Span}
 use Rattle.label.specs.Listing.{above, passing, pairsBelow}
-use Rattle.label.specs.Span.{windowNumbered, readAndSound, spanOfWindow, noSpan, spanOf, startsInto, endsInto, spansMeet, spanAt, placesMeet, otherMeets, readInVain, readEnd}
+use Rattle.spans.specs.Span.{windowNumbered, readAndSound, spanOfWindow, noSpan, spanOf, startsInto, endsInto, spansMeet, spanAt, placesMeet, otherMeets, readInVain, readEnd}
 use Rattle.label.specs.Label.{takesPart, cellsMeet, meetingCells, meetingPairs, unsoundCells}
 use Rattle.label.proofs.Turns.{passing-same, passing-stays, pairs-same, pairs-stay}
 use Rattle.label.proofs.Meeting.{TakesPart, part-facts}
@@ -66,18 +66,18 @@ read-unsound false sound = refl
 
 -- as the loops' turns ask it
 pub turn-above :
-    (starts ends : List ℕ) (lower higher : ℕ) (met : Bool) → lower < higher →
-    met ≡ spansMeet (spanAt starts ends lower) (spanAt starts ends higher) →
+    (starts ends : List ℕ) (lower higher : ℕ) (own : Span) (met : Bool) → lower < higher →
+    own ≡ spanAt starts ends lower → met ≡ spansMeet own (spanAt starts ends higher) →
     above (placesMeet starts ends) lower higher ≡ met
 unfolding placesMeet
-turn-above starts ends lower higher met l e = rw (lt-ltb lower higher l, e)
+turn-above starts ends lower higher own met l o e = rw (lt-ltb lower higher l, e, o)
 
 pub turn-other :
-    (starts ends : List ℕ) (cell other : ℕ) (met asked : Bool) →
-    met ≡ spansMeet (spanAt starts ends cell) (spanAt starts ends other) → asked ≡ (not (eqb other cell) && met) →
+    (starts ends : List ℕ) (cell other : ℕ) (own : Span) (met asked : Bool) → own ≡ spanAt starts ends cell →
+    met ≡ spansMeet own (spanAt starts ends other) → asked ≡ (not (eqb other cell) && met) →
     otherMeets starts ends cell other ≡ asked
 unfolding otherMeets placesMeet
-turn-other starts ends cell other met asked e a = rw (a, e)
+turn-other starts ends cell other own met asked o e a = rw (a, e, o)
 
 pub turn-vain :
     (s : Settings) (ends : List ℕ) (n : ℕ) (read asked : Bool) → read ≡ isRead s n →
@@ -212,6 +212,9 @@ module _ (ram : List ℕ) (s : Settings) where
 
 -- a cell that has no span meets none
 pub spanless-none :
-    (starts ends : List ℕ) (cell : ℕ) → getD ends cell 0 ≡ 0 → (k : ℕ) → placesMeet starts ends cell k ≡ false
+    (starts ends : List ℕ) (cell : ℕ) (own : Span) → own ≡ spanAt starts ends cell → own .end ≡ 0 → (k : ℕ) →
+    placesMeet starts ends cell k ≡ false
 unfolding placesMeet spansMeet
-spanless-none starts ends cell e k = rw (e, le-ltb (getD starts k 0) 0 (omega arith), and-false)
+spanless-none starts ends cell own o z k =
+    let e : getD ends cell 0 ≡ 0 = rw o at z in
+    rw (e, le-ltb (getD starts k 0) 0 (omega arith), and-false)

@@ -8,8 +8,6 @@ use lib.Dec.{eqb}
 use Rattle.words.specs.declared.settings.Settings.{Settings}
 use Rattle.words.specs.Number.{unsoundCell}
 use Rattle.words.specs.Refusal.{Test, _when_, firstOf}
-use Rattle.memory.specs.declared.kind.Kind.{Kind}
-use Rattle.memory.specs.declared.kind.Kind.the-variants.{Receive, Transmit, Broadcast}
 use Rattle.memory.specs.Kind.{kindNumbered}
 use Rattle.windows.specs.Window.{windowsMeet}
 use Rattle.cells.specs.Stack.{stackWindow}
@@ -18,7 +16,8 @@ use Rattle.label.specs.declared.one.Sharer.{Sharer}
 use Rattle.label.specs.declared.one.CellLabel.{CellLabel}
 use Rattle.label.specs.declared.whole.AreaLabel.{AreaLabel}
 use Rattle.label.specs.Listing.{Pair, passing, pairsBelow, pairWords}
-use Rattle.label.specs.Span.{windowNumbered, readAndSound}
+use Rattle.spans.specs.Mark.{ableToWrite}
+use Rattle.spans.specs.Span.{windowNumbered, readAndSound}
 
 -- "Unsound cells .. take no part in pairs. The cells are those the whole-area check reads."
 unfoldable pub takesPart : List ℕ → Settings → ℕ → Bool
@@ -41,12 +40,6 @@ meetingPairs ram s = pairsBelow (cellsMeet ram s) 96 96
 -- "Unsound cells are named in a line of their own"
 unfoldable pub unsoundCells : List ℕ → Settings → List ℕ
 unsoundCells ram s = passing (isUnsound ram s (stackWindow ram s)) 96
-
--- "able to write or only to send"
-abbrev pub ableToWrite : Kind → Bool
-ableToWrite Receive = true
-ableToWrite Transmit = false
-ableToWrite Broadcast = true
 
 -- a cell of the listing with its mark: "and mark each as able to write or only to send"
 unfoldable pub sharerNumbered : ℕ → Sharer

@@ -5,19 +5,19 @@ ghost use mathlib.Core.Bool.{true};
 ghost use Prim.Native.Nat.{_<_, _≤_};
 ghost use lib.ListN.{length};
 ghost use Rattle.label.specs.Listing.{passing};
-ghost use Rattle.label.specs.Span.{otherMeets};
+ghost use Rattle.spans.specs.Span.{otherMeets};
 ghost use Rattle.label.specs.Label.{takesPart, sharerNumbered, meetingCells, cellAnswer, cellLabel};
-use crate::cell::able_to_write;
-use crate::cell::cell_numbered;
-use crate::cell::is_read;
-use crate::cell::kind_numbered;
-use crate::cell::read_end;
-use crate::span::Span;
-use crate::span::read_spans;
-use crate::span::spans_meet;
+use crate::place::meets_at;
+use crate::place::span_at;
 use area::area::ground_refusal;
 use cells::cell::sound_cell;
 use cells::stack::stack_window;
+use spans::numbered::able_to_write;
+use spans::numbered::cell_numbered;
+use spans::numbered::is_read;
+use spans::numbered::kind_numbered;
+use spans::numbered::read_end;
+use spans::span::read_spans;
 use words::choose::both;
 use words::number::UNSOUND_CELL;
 use words::settings::Settings;
@@ -63,10 +63,7 @@ fn list_meeting(starts: &[u32; 96], ends: &[u32; 96], end: u16, cell: u16) -> Ce
     requires { ⌜ ((cell < 96) × (end ≤ 96)) × (length (passing (otherMeets (now starts) (now ends) cell) end) ≤ 89) ⌝ }
     ensures { λ r. ⌜ r ≡ cellAnswer 0 (passing (otherMeets (now (starts .entry)) (now (ends .entry)) cell) end) ⌝ }
 {
-    let own = Span {
-        start: starts[cell as usize],
-        end: ends[cell as usize],
-    };
+    let own = span_at(starts, ends, cell);
     let mut cells = [Sharer {
         cell: 0,
         writes: false,
@@ -74,11 +71,7 @@ fn list_meeting(starts: &[u32; 96], ends: &[u32; 96], end: u16, cell: u16) -> Ce
     let mut count: u16 = 0;
     let mut other: u16 = 0;
     while other < end {
-        let span = Span {
-            start: starts[other as usize],
-            end: ends[other as usize],
-        };
-        if both(other != cell, spans_meet(own, span)) {
+        if both(other != cell, meets_at(own, starts, ends, other)) {
             cells[count as usize] = sharer_numbered(other);
             count += 1;
         }

@@ -5,15 +5,15 @@ ghost use Prim.Native.Nat.{_+_, _≤_, _<_};
 ghost use lib.ListN.{length};
 ghost use lib.Seq.{sets};
 ghost use Rattle.label.specs.Listing.{passing, pairsWith, pairsBelow, pairWords};
-ghost use Rattle.label.specs.Span.{placesMeet, readInVain};
+ghost use Rattle.spans.specs.Span.{placesMeet, readInVain};
 ghost use Rattle.label.specs.Label.{meetingPairs, unsoundCells, areaAnswer, areaLabel, pairsInto};
-use crate::cell::is_read;
-use crate::cell::read_end;
-use crate::span::Span;
-use crate::span::read_spans;
-use crate::span::spans_meet;
+use crate::place::meets_at;
+use crate::place::span_at;
 use area::area::ground_refusal;
 use memory::ram::put;
+use spans::numbered::is_read;
+use spans::numbered::read_end;
+use spans::span::read_spans;
 use words::choose::both;
 use words::settings::Settings;
 
@@ -39,21 +39,14 @@ fn put_pairs_with(
     ensures words { λ r. ⌜ now (pairs .exit) ≡ sets (now (pairs .entry)) used (pairWords (pairsWith (placesMeet (now (starts .entry)) (now (ends .entry))) end lower)) ⌝ }
     ensures next { λ r. ⌜ r ≡ used + length (pairsWith (placesMeet (now (starts .entry)) (now (ends .entry))) end lower) ⌝ }
 {
-    let own = Span {
-        start: starts[lower as usize],
-        end: ends[lower as usize],
-    };
+    let own = span_at(starts, ends, lower);
     if own.end == 0 {
         return used;
     }
     let mut at = used;
     let mut higher = lower + 1;
     while higher < end {
-        let other = Span {
-            start: starts[higher as usize],
-            end: ends[higher as usize],
-        };
-        if spans_meet(own, other) {
+        if meets_at(own, starts, ends, higher) {
             put(pairs, at, 256 * lower + higher);
             at += 1;
         }

@@ -3,7 +3,6 @@
 -- so that none can drift from its function.
 use Rattle.words.proofs.Settled.{determined, Settled}
 use Rattle.label_text.proofs.printed
-use Rattle.label_text.proofs.wording
 
 pub put-area-text-settled : Settled 2 printed.put_area_text.Kinds.ps printed.put_area_text.Kinds.r printed.put_area_text.Reads.Post
 put-area-text-settled κs a x y v w p q =
@@ -12,11 +11,3 @@ put-area-text-settled κs a x y v w p q =
 pub put-cell-text-settled : Settled 2 printed.put_cell_text.Kinds.ps printed.put_cell_text.Kinds.r printed.put_cell_text.Reads.Post
 put-cell-text-settled κs a x y v w p q =
     (determined (p .length) (q .length), λ i. (determined (p .bytes) (q .bytes) i, v .1))
-
-pub put-kind-settled : Settled 1 wording.put_kind.Kinds.ps wording.put_kind.Kinds.r wording.put_kind.Reads.Post
-put-kind-settled κs a x y v w p q =
-    (determined (p .place) (q .place), λ i. (determined (p .bytes) (q .bytes) i, v .1))
-
-pub put-refused-settled : Settled 1 wording.put_refused.Kinds.ps wording.put_refused.Kinds.r wording.put_refused.Reads.Post
-put-refused-settled κs a x y v w p q =
-    (determined (p .place) (q .place), λ i. (determined (p .bytes) (q .bytes) i, v .1))

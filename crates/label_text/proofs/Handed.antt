@@ -16,8 +16,8 @@ use Rattle.label.proofs.Members.{_∈_, pairs-exactly}
 use Rattle.label.proofs.Refused.{cell-listed, area-listed, room-filled}
 use Rattle.label.proofs.Most.{unsound-most, meeting-most, meeting-pairs-most}
 use Rattle.label.proofs.Answers.{count-most, unsound-count-most, pair-count-most}
-use Rattle.label_text.specs.Wording.{meetLine, pairLine, refusedLine}
-use Rattle.label_text.specs.Printed.{areaLines, areaText, cellLines, oneCellText, wordLine, AreaFits, linesOf, CellFits, cellLinesOf}
+use Rattle.label_words.specs.Wording.{meetLine, refusedLine}
+use Rattle.label_text.specs.Printed.{pairLine, areaLines, areaText, cellLines, oneCellText, wordLine, AreaFits, linesOf, CellFits, cellLinesOf}
 
 -- a run that fits is taken back out
 run-taken : {A : Type 0} (l xs : List A) → length xs ≤ length l → take (length xs) (sets l 0 xs) ≡ xs

@@ -1,51 +1,21 @@
 -- How long the label's text is: too short to reach the last place that can be counted.
-use Prim.Native.Nat.{ℕ, _*_, _%_, _^_, _<_, _≤_}
+use Prim.Native.Nat.{ℕ, _*_, _^_, _<_, _≤_}
 use native.Mathlib.Omega.{arith}
 use mathlib.Core.Path.{_≡_}
 use mathlib.Core.Logic.{⊎-elim}
-use mathlib.Core.Bool.{Bool, true, false, cond}
+use mathlib.Core.Bool.{true, false}
 use mathlib.Core.List.{List, [], _∷_, flatMap}
 use lib.ListN.{length, length-append}
 use lib.Dec.{eqb}
 use Rattle.words.proofs.Basics.{yes-or-no}
-use Rattle.words.specs.Number.{ramLength, badSettings, unsoundStack, addressBeyond}
 use Rattle.words.specs.declared.settings.Settings.{Settings}
-use Rattle.memory.specs.declared.kind.Kind.{Kind}
-use Rattle.memory.specs.declared.kind.Kind.the-variants.{Receive, Transmit, Broadcast}
-use Rattle.memory.specs.Kind.{kindNumbered}
 use Rattle.area.specs.Area.{groundRefusal}
-use Rattle.label.specs.declared.one.Sharer.{Sharer}
 use Rattle.label.specs.Label.{meetingCells, meetingPairs, unsoundCells, cellRefusal}
 use Rattle.label.proofs.Most.{unsound-most, meeting-most, meeting-pairs-most}
-use Rattle.text.proofs.Numerals.{decimal-most}
 use Rattle.text.proofs.Lines.{named-most}
-use Rattle.label_text.specs.Wording.{kindName, cellText, markText, markedText, meetLine, pairLine, alsoText, unsoundLine, reasonText, refusedLine}
-use Rattle.label_text.specs.Printed.{pairsName, cellsName, areaLines, areaText, sharerLine, cellLines, oneCellText}
-
-pub kind-most : (kind : Kind) → length (kindName kind) ≤ 9
-kind-most Receive = omega arith
-kind-most Transmit = omega arith
-kind-most Broadcast = omega arith
-
-cell-most : (number : ℕ) → length (cellText number) ≤ 30
-unfolding cellText
-cell-most number = rw length-append (omega (arith, kind-most (kindNumbered number), decimal-most (number % 32)))
-
-mark-most : (writes : Bool) → length (markText writes) ≤ 9
-mark-most true = omega arith
-mark-most false = omega arith
-
-marked-most : (sharer : Sharer) → length (markedText sharer) ≤ 39
-unfolding markedText
-marked-most sharer = rw length-append (omega (arith, cell-most (sharer .cell), mark-most (sharer .writes)))
-
-meet-most : (cell other : Sharer) → length (meetLine cell other) ≤ 86
-unfolding meetLine
-meet-most cell other = simp length-append (omega (arith, marked-most cell, marked-most other))
-
-also-most : (number : ℕ) → length (alsoText number) ≤ 32
-unfolding alsoText
-also-most number = simp length-append (omega (arith, cell-most number))
+use Rattle.label_words.specs.Wording.{alsoText, unsoundLine}
+use Rattle.label_words.proofs.Lengths.{cell-most, meet-most, also-most, refused-most}
+use Rattle.label_text.specs.Printed.{pairLine, pairsName, cellsName, areaLines, areaText, sharerLine, cellLines, oneCellText}
 
 -- lines of which each has at most m bytes
 lines-most :
@@ -61,23 +31,6 @@ unsound-line-most : (cells : List ℕ) → length cells ≤ 90 → length (unsou
 unfolding unsoundLine
 unsound-line-most [] h = omega arith
 unsound-line-most (x ∷ xs) h = simp length-append (omega (arith, cell-most x, lines-most alsoText 32 also-most xs))
-
--- the longer of two texts
-pub either-most : (b : Bool) (xs ys : List ℕ) (n : ℕ) → length xs ≤ n → length ys ≤ n → length (cond b xs ys) ≤ n
-either-most true xs ys n h k = h
-either-most false xs ys n h k = k
-
-reason-most : (number : ℕ) → length (reasonText number) ≤ 22
-unfolding reasonText
-reason-most number =
-    either-most (eqb number ramLength) _ _ 22 (omega arith)
-    (either-most (eqb number badSettings) _ _ 22 (omega arith)
-    (either-most (eqb number unsoundStack) _ _ 22 (omega arith)
-    (either-most (eqb number addressBeyond) _ _ 22 (omega arith) (omega arith))))
-
-pub refused-most : (number : ℕ) → length (refusedLine number) ≤ 53
-unfolding refusedLine
-refused-most number = simp length-append (omega (arith, decimal-most number, reason-most number))
 
 -- a buffer of so many bytes has room for the label of any area
 pub area-room : (ram : List ℕ) (s : Settings) → length (areaText ram s) ≤ 350000

@@ -9,8 +9,9 @@ use Rattle.text.specs.Line.{namedLine}
 use Rattle.area.specs.Area.{groundRefusal}
 use Rattle.label.specs.declared.one.CellLabel.{CellLabel}
 use Rattle.label.specs.declared.whole.AreaLabel.{AreaLabel}
+use Rattle.label.specs.Listing.{Pair}
 use Rattle.label.specs.Label.{meetingCells, meetingPairs, unsoundCells, sharerNumbered, cellRefusal}
-use Rattle.label_text.specs.Wording.{meetLine, pairLine, unsoundLine, refusedLine}
+use Rattle.label_words.specs.Wording.{meetLine, unsoundLine, refusedLine}
 
 -- `pairs` and `cells`
 abbrev pub pairsName : List ℕ
@@ -18,6 +19,10 @@ pairsName = 112 ∷ 97 ∷ 105 ∷ 114 ∷ 115 ∷ []
 
 abbrev pub cellsName : List ℕ
 cellsName = 99 ∷ 101 ∷ 108 ∷ 108 ∷ 115 ∷ []
+
+-- "lower number first"
+abbrev pub pairLine : Pair → List ℕ
+pairLine p = meetLine (sharerNumbered (p .lower)) (sharerNumbered (p .higher))
 
 -- a line for each pair, the unsound cells, and how many pairs there are
 unfoldable pub areaLines : List ℕ → Settings → List ℕ

@@ -1,3 +1,2 @@
 // The label on shared pages as text. Document 02, request 1.
 pub mod printed;
-pub mod wording;

@@ -1,7 +1,3 @@
-// What callers in C and Rust lend, as values, and values as the words that go back to them.
-pub mod answers;
-pub mod descriptions;
-pub mod labels;
+// What every caller in C and Rust lends, settings and what is remembered, as values; and how words go back to a caller.
 pub mod over;
 pub mod setup;
-pub mod values;

@@ -1,7 +1,7 @@
 // Words and bytes put over lent ones. Single words go from the last to the first: where there is room for the last
 // there is room for all, so one test of the length is left. Many are copied upwards, as far as there is room.
 ghost use mathlib.Core.Path.{_≡_};
-ghost use Prim.Native.Nat.{min, _≤_};
+ghost use Prim.Native.Nat.{min};
 ghost use lib.ListN.{length};
 ghost use lib.Seq.{sets};
 ghost use mathlib.Core.List.{[], _∷_};
@@ -10,14 +10,14 @@ use memory::ram::put;
 use words::choose::smaller;
 
 // Four words from place `at` on.
-pub(crate) fn put_four(xs: &mut [u16], at: usize, a: u16, b: u16, c: u16, d: u16)
-    requires { ⌜ at ≤ 4 ⌝ }
+pub fn put_four(xs: &mut [u16], at: u16, a: u16, b: u16, c: u16, d: u16)
     ensures { λ r. ⌜ now (xs .exit) ≡ sets (now (xs .entry)) at (a ∷ b ∷ c ∷ d ∷ []) ⌝ }
 {
-    put(xs, at + 3, d);
-    put(xs, at + 2, c);
-    put(xs, at + 1, b);
-    put(xs, at, a);
+    let first = at as usize;
+    put(xs, first + 3, d);
+    put(xs, first + 2, c);
+    put(xs, first + 1, b);
+    put(xs, first, a);
 }
 
 fn put_words_below(xs: &mut [u16], words: [u16; 32], room: usize)
@@ -33,7 +33,7 @@ fn put_words_below(xs: &mut [u16], words: [u16; 32], room: usize)
 
 // The thirty-two words of a value, from place 4 on. Where there is room for all, the compiler sees a copy of fixed
 // length.
-pub(crate) fn put_words(xs: &mut [u16], words: [u16; 32])
+pub fn put_words(xs: &mut [u16], words: [u16; 32])
     ensures { λ r. ⌜ now (xs .exit) ≡ sets (now (xs .entry)) 4 words ⌝ }
 {
     if 36 <= xs.len() {

@@ -23,7 +23,7 @@ use Rattle.cells.specs.Cell.{cellWindow}
 use Rattle.area.specs.Area.{cellNumbered, groundRefusal}
 use Rattle.area.proofs.Before.{accepted-ground}
 use Rattle.area.proofs.Listed.{numbered-cell, command-read}
-use Rattle.label.specs.Span.{windowNumbered}
+use Rattle.spans.specs.Span.{windowNumbered}
 use Rattle.label.specs.Label.{takesPart, sharerNumbered}
 use Rattle.label.proofs.Meeting.{TakesPart, part-facts}
 use Rattle.label.proofs.Shared.{Shares}

@@ -9,7 +9,7 @@ use lib.ListN.{getD}
 use Rattle.words.specs.declared.settings.Settings.{Settings}
 use Rattle.memory.specs.State.{State}
 use Rattle.windows.specs.Window.{placeOf}
-use Rattle.label.specs.Span.{windowNumbered}
+use Rattle.spans.specs.Span.{windowNumbered}
 use Rattle.label.specs.Label.{takesPart, noSharer, cellLabel}
 use Rattle.message.specs.Heard.{Heard}
 use Rattle.message.specs.Tests.{refusalFor}

@@ -10,7 +10,7 @@ use Rattle.memory.specs.declared.kind.Kind.the-variants.{Receive, Transmit, Bro
 use Rattle.memory.specs.Kind.{kindNumbered}
 use Rattle.text.proofs.Runs.{length-hex}
 use Rattle.text.proofs.Numerals.{decimal-most}
-use Rattle.label_text.proofs.Most.{kind-most, either-most, refused-most}
+use Rattle.label_words.proofs.Lengths.{kind-most, either-most, refused-most}
 use Rattle.origin.specs.declared.origin.Part.{Part}
 use Rattle.origin.specs.declared.origin.Part.the-variants.{Data, Pointer, Stack, StackPointer}
 use Rattle.origin.specs.declared.origin.Origin.{Origin}

@@ -6,7 +6,7 @@ use lib.Dec.{eqb}
 use Rattle.memory.specs.Kind.{kindNumbered}
 use Rattle.text.specs.Text.{hexText, decimalText, newline}
 use Rattle.text.specs.Line.{column}
-use Rattle.label_text.specs.Wording.{kindName, comma, refusedLine}
+use Rattle.label_words.specs.Wording.{kindName, comma, refusedLine}
 use Rattle.origin.specs.declared.origin.Part.{Part}
 use Rattle.origin.specs.declared.origin.Part.the-variants.{Data, Pointer, Stack, StackPointer}
 use Rattle.origin.specs.declared.origin.Origin.{Origin}

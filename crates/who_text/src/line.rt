@@ -1,12 +1,12 @@
 // The answer about an address as a line, into a lent buffer. Each function answers the place after what it puts there.
 ghost use Rattle.text.specs.Text.{Put};
 ghost use Rattle.who_text.specs.Line.{cellName, stackName, dataText, pointerText, stackText, partText, originLine, answerLine, whoLine};
-use label::cell::kind_numbered;
-use label_text::wording::put_kind;
-use label_text::wording::put_refused;
+use label_words::wording::put_kind;
+use label_words::wording::put_refused;
 use origin::origin::Origin;
 use origin::origin::Part;
 use origin::origin::Who;
+use spans::numbered::kind_numbered;
 use text::line::put_hex_word;
 use text::line::put_newline;
 use text::line::put_number;

@@ -6,7 +6,7 @@ use mathlib.Core.Path.{_≡_, refl, _∙_}
 use mathlib.Core.Logic.{⊎-elim}
 use lib.ListN.{replicate}
 use Rattle.label.specs.Listing.{passing}
-use Rattle.label.specs.Span.{otherMeets}
+use Rattle.spans.specs.Span.{otherMeets}
 use Rattle.label.specs.Label.{sharerNumbered, noSharer}
 use Rattle.label.proofs.Turns.{Run, run-starts, run-put, run-passed, sharers-told}
 use Rattle.label.proofs.Most.{listed-fits}
@@ -21,42 +21,15 @@ Inv-loop starts ends end cell own cells₀ count₀ other₀ cells count other =
 abbrev μ-loop : tie.MeasureT-loop
 μ-loop starts ends end cell own cells₀ count₀ other₀ cells count other = end - other
 
-mul-t11 : tie.Need-mul-t11 Inv-loop μ-loop
-mul-t11 c = search needs
-
-element-copy-out-t14 : tie.Need-element-copy-out-t14 Inv-loop μ-loop
-element-copy-out-t14 c = search needs
-
-mul-t16 : tie.Need-mul-t16 Inv-loop μ-loop
-mul-t16 c = search needs
-
-element-copy-out-t19 : tie.Need-element-copy-out-t19 Inv-loop μ-loop
-element-copy-out-t19 c = search needs
+span-at-requires : tie.Need-span-at-requires Inv-loop μ-loop
+span-at-requires c κs = search needs
 
 loop-holds : tie.Need-loop-holds Inv-loop μ-loop
 unfolding passing
 loop-holds c = ((omega arith, omega arith), run-starts _ _ _ _ _ _ _ refl refl refl)
 
-cast-t22 : tie.Need-cast-t22 Inv-loop μ-loop
-cast-t22 c = search needs
-
-mul-t23 : tie.Need-mul-t23 Inv-loop μ-loop
-mul-t23 c = search needs
-
-element-copy-out-t26 : tie.Need-element-copy-out-t26 Inv-loop μ-loop
-element-copy-out-t26 c = search needs
-
-cast-t27 : tie.Need-cast-t27 Inv-loop μ-loop
-cast-t27 c = search needs
-
-mul-t28 : tie.Need-mul-t28 Inv-loop μ-loop
-mul-t28 c = search needs
-
-element-copy-out-t31 : tie.Need-element-copy-out-t31 Inv-loop μ-loop
-element-copy-out-t31 c = search needs
-
-spans-meet-requires : tie.Need-spans-meet-requires Inv-loop μ-loop
-spans-meet-requires c κs = search needs
+meets-at-requires : tie.Need-meets-at-requires Inv-loop μ-loop
+meets-at-requires c κs = search needs
 
 both-requires : tie.Need-both-requires Inv-loop μ-loop
 both-requires c κs = search needs
@@ -73,11 +46,12 @@ mul-cells c = search needs
 array-set-from-cells : tie.Need-array-set-from-cells Inv-loop μ-loop
 array-set-from-cells c =
     let asked = c .before .before in
-    let at = asked .before .before .before .before .before in
-    let a = at .before .before .before in
+    let at = asked .before .before .before in
+    let own = at .before in
+    let a = own .before in
     let meet =
-    turn-other (a .args .starts .now) (a .args .ends .now) (a .args .cell) (at .loop .other) _ _
-    (asked .before .spans-meet .ensures) (asked .both .ensures) in
+    turn-other (a .args .starts .now) (a .args .ends .now) (a .args .cell) (at .loop .other) _ _ _
+    (own .span-at .ensures) (asked .before .meets-at .ensures) (asked .both .ensures) in
     listed-fits _ (at .loop .other) _ 89 _ (at .loop .inv .1 .place) (a .pre .1) (omega arith) (meet ∙ c .before .if1 .taken)
 
 add-count : tie.Need-add-count Inv-loop μ-loop
@@ -92,11 +66,12 @@ loop-less c = search needs
 loop-again : tie.Need-loop-again Inv-loop μ-loop
 loop-again c =
     let asked = c .before in
-    let at = asked .before .before .before .before .before in
-    let a = at .before .before .before in
+    let at = asked .before .before .before in
+    let own = at .before in
+    let a = own .before in
     let meet =
-    turn-other (a .args .starts .now) (a .args .ends .now) (a .args .cell) (at .loop .other) _ _
-    (asked .before .spans-meet .ensures) (asked .both .ensures) in
+    turn-other (a .args .starts .now) (a .args .ends .now) (a .args .cell) (at .loop .other) _ _ _
+    (own .span-at .ensures) (asked .before .meets-at .ensures) (asked .both .ensures) in
     let run = at .loop .inv .1 in
     ⊎-elim
     (λ w.
@@ -110,7 +85,7 @@ loop-again c =
 returns : tie.Need-returns Inv-loop μ-loop
 returns c =
     let at = c .before in
-    let a = at .before .before .before in
+    let a = at .before .before in
     let e : at .loop .other ≡ a .args .end = omega arith in
     sharers-told _ _ _ _ (at .loop .inv .1) ∙ rw e
 
@@ -120,18 +95,9 @@ list-meeting-spec =
     (tie.spec
     Inv-loop
     μ-loop
-    mul-t11
-    element-copy-out-t14
-    mul-t16
-    element-copy-out-t19
+    span-at-requires
     loop-holds
-    cast-t22
-    mul-t23
-    element-copy-out-t26
-    cast-t27
-    mul-t28
-    element-copy-out-t31
-    spans-meet-requires
+    meets-at-requires
     both-requires
     sharer-numbered-requires
     cast-cells

@@ -5,7 +5,7 @@ use Prim.Native.Nat.{_-_, _≤_, _<_}
 use mathlib.Core.Path.{refl, _∙_}
 use mathlib.Core.Logic.{⊎-elim}
 use lib.Seq.{length-sets}
-use Rattle.label.specs.Span.{placesMeet}
+use Rattle.spans.specs.Span.{placesMeet}
 use Rattle.label.proofs.Spans.{turn-above, spanless-none}
 use Rattle.label.proofs.Turns.{above-none, Row, run-starts, run-put, run-passed, run-small, row-done, row-skipped}
 use Rattle.label.proofs.whole.put_pairs_with.Statement.{statement}
@@ -18,20 +18,12 @@ Inv-loop starts ends end lower pairs₀ used own at₀ higher₀ pairs at higher
 abbrev μ-loop : tie.MeasureT-loop
 μ-loop starts ends end lower pairs₀ used own at₀ higher₀ pairs at higher = end - higher
 
-mul-t12 : tie.Need-mul-t12 Inv-loop μ-loop
-mul-t12 c = search needs
-
-element-copy-out-t15 : tie.Need-element-copy-out-t15 Inv-loop μ-loop
-element-copy-out-t15 c = search needs
-
-mul-t17 : tie.Need-mul-t17 Inv-loop μ-loop
-mul-t17 c = search needs
-
-element-copy-out-t20 : tie.Need-element-copy-out-t20 Inv-loop μ-loop
-element-copy-out-t20 c = search needs
+span-at-requires : tie.Need-span-at-requires Inv-loop μ-loop
+span-at-requires c κs = search needs
 
 returns : tie.Need-returns Inv-loop μ-loop
-returns c = row-skipped _ _ _ _ _ (spanless-none _ _ _ (c .if1 .taken))
+returns c =
+    row-skipped _ _ _ _ _ (spanless-none _ _ _ _ (c .before .before .span-at .ensures) (c .if1 .taken))
 
 add-higher : tie.Need-add-higher Inv-loop μ-loop
 add-higher c = search needs
@@ -39,26 +31,8 @@ add-higher c = search needs
 loop-holds : tie.Need-loop-holds Inv-loop μ-loop
 loop-holds c = ((omega arith, omega arith), run-starts _ _ _ _ _ _ _ (above-none (placesMeet _ _) _) refl refl)
 
-cast-t23 : tie.Need-cast-t23 Inv-loop μ-loop
-cast-t23 c = search needs
-
-mul-t24 : tie.Need-mul-t24 Inv-loop μ-loop
-mul-t24 c = search needs
-
-element-copy-out-t27 : tie.Need-element-copy-out-t27 Inv-loop μ-loop
-element-copy-out-t27 c = search needs
-
-cast-t28 : tie.Need-cast-t28 Inv-loop μ-loop
-cast-t28 c = search needs
-
-mul-t29 : tie.Need-mul-t29 Inv-loop μ-loop
-mul-t29 c = search needs
-
-element-copy-out-t32 : tie.Need-element-copy-out-t32 Inv-loop μ-loop
-element-copy-out-t32 c = search needs
-
-spans-meet-requires : tie.Need-spans-meet-requires Inv-loop μ-loop
-spans-meet-requires c κs = search needs
+meets-at-requires : tie.Need-meets-at-requires Inv-loop μ-loop
+meets-at-requires c κs = search needs
 
 mul-put : tie.Need-mul-put Inv-loop μ-loop
 mul-put c = search needs
@@ -71,7 +45,7 @@ put-requires c κs = search needs
 
 add-at : tie.Need-add-at Inv-loop μ-loop
 add-at c =
-    let at = c .before .before .before .before .before .before .before .before .before in
+    let at = c .before .before .before .before .before .before .before in
     let small = run-small _ _ (at .loop .higher) _ _ _ _ (at .loop .inv .1) (omega arith) in
     omega arith
 
@@ -84,11 +58,12 @@ loop-less c = search needs
 loop-again : tie.Need-loop-again Inv-loop μ-loop
 loop-again c =
     let asked = c .before in
-    let at = asked .before .before .before .before in
-    let a = at .before .before .before .before .before .before .args in
+    let at = asked .before .before in
+    let own = at .before .before .before in
+    let a = own .before .before .args in
     let meet =
-    turn-above (a .starts .now) (a .ends .now) (a .lower) (at .loop .higher) _ (at .loop .inv .0 .0)
-    (asked .spans-meet .ensures) in (
+    turn-above (a .starts .now) (a .ends .now) (a .lower) (at .loop .higher) _ _ (at .loop .inv .0 .0)
+    (own .span-at .ensures) (asked .meets-at .ensures) in (
       (omega arith, omega arith),
       ⊎-elim
           (λ w. run-put _ _ _ _ _ _ _ (at .loop .inv .1) _ _ _ refl (w .5 ∙ w .2 .ensures) (w .6) (meet ∙ w .0 .taken))
@@ -108,20 +83,11 @@ put-pairs-with-spec =
     (tie.spec
     Inv-loop
     μ-loop
-    mul-t12
-    element-copy-out-t15
-    mul-t17
-    element-copy-out-t20
+    span-at-requires
     returns
     add-higher
     loop-holds
-    cast-t23
-    mul-t24
-    element-copy-out-t27
-    cast-t28
-    mul-t29
-    element-copy-out-t32
-    spans-meet-requires
+    meets-at-requires
     mul-put
     add-put
     put-requires

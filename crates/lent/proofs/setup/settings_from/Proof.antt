@@ -1,6 +1,8 @@
 -- `settings_from` meets its contract.
 use borrow.Author.Needs.{needs}
-use Rattle.lent.specs.Setup.{settingsFrom}
+use mathlib.Core.Path.{ap, _∙_}
+use lib.Dec.{eqb}
+use Rattle.lent.specs.Setup.{isYes, areaFrom, settingsFrom}
 use Rattle.lent.proofs.setup.settings_from.Statement.{statement}
 use Rattle.lent.proofs.setup.settings_from.Tie as tie
 
@@ -46,21 +48,33 @@ word-at-requires-12 c κs = search needs
 returns : tie.Need-returns
 unfolding settingsFrom
 returns c =
-    rw (
-      c .word-at12 .ensures,
-      c .before .area-from .ensures,
-      c .before .before .word-at11 .ensures,
-      c .before .before .before .word-at10 .ensures,
-      c .before .before .before .before .word-at9 .ensures,
-      c .before .before .before .before .before .word-at8 .ensures,
-      c .before .before .before .before .before .before .word-at7 .ensures,
-      c .before .before .before .before .before .before .before .word-at6 .ensures,
-      c .before .before .before .before .before .before .before .before .word-at5 .ensures,
-      c .before .before .before .before .before .before .before .before .before .word-at4 .ensures,
-      c .before .before .before .before .before .before .before .before .before .before .word-at3 .ensures,
-      c .before .before .before .before .before .before .before .before .before .before .before .word-at2 .ensures,
-      c .before .before .before .before .before .before .before .before .before .before .before .before .word-at .ensures,
-    )
+    let area = c .before in
+    let w1 = area .before in
+    let w2 = w1 .before in
+    let w3 = w2 .before in
+    let w4 = w3 .before in
+    let w5 = w4 .before in
+    let w6 = w5 .before in
+    let w7 = w6 .before in
+    let w8 = w7 .before in
+    let w9 = w8 .before in
+    let w10 = w9 .before in
+    let w11 = w10 .before in
+    λ i.
+    record {
+      address = c .word-at12 .ensures i;
+      area = (area .area-from .ensures ∙ ap areaFrom (w1 .word-at11 .ensures)) i;
+      «stack_size» = w2 .word-at10 .ensures i;
+      «overwrite_invalid» = isYes (w3 .word-at9 .ensures i);
+      «separate_broadcast» = isYes (w4 .word-at8 .ensures i);
+      «illegal_receive_disable» = isYes (w5 .word-at7 .ensures i);
+      «busy_receive_disable» = isYes (w6 .word-at6 .ensures i);
+      «busy_always» = isYes (w7 .word-at5 .ensures i);
+      «service_request» = isYes (w8 .word-at4 .ensures i);
+      «subsystem_flag» = isYes (w9 .word-at3 .ensures i);
+      «terminal_flag» = isYes (w10 .word-at2 .ensures i);
+      broadcast = eqb (w11 .word-at .ensures i) 0;
+    }
 
 pub settings-from-spec : {M : Type 1} → statement M
 settings-from-spec =
