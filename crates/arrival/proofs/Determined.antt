@@ -5,6 +5,9 @@ use mathlib.Core.Path.{refl}
 use Rattle.words.proofs.Settled.{determined, Settled}
 use Rattle.arrival.proofs.target
 
+pub target-with-settled : Settled 1 target.target_with.Kinds.ps target.target_with.Kinds.r target.target_with.Reads.Post
+target-with-settled κs a x y v w p q = (determined p q, refl)
+
 pub target-of-settled : Settled 1 target.target_of.Kinds.ps target.target_of.Kinds.r target.target_of.Reads.Post
 target-of-settled κs a x y v w p q = (determined p q, refl)
 

@@ -6,6 +6,7 @@ use mathlib.Core.List.{List}
 use Rattle.words.specs.declared.settings.Settings.{Settings}
 use Rattle.words.specs.Command.{subaddressOf}
 use Rattle.words.specs.Settings.{isOwn, isBroadcast}
+use Rattle.windows.specs.declared.window.Window.{Window}
 use Rattle.cells.specs.declared.cell.Cell.{Cell}
 use Rattle.memory.specs.Map.{isBusyAt, isIllegalAt}
 use Rattle.memory.specs.Kind.{cellNumber, kindOf}
@@ -25,13 +26,16 @@ isIllegal ram s command = isIllegalAt ram (isOwn s command) command
 unfoldable pub isBusy : List ℕ → Settings → ℕ → Bool
 isBusy ram s command = isBusyAt ram (isOwn s command) command || s .«busy_always»
 
-unfoldable pub targetOf : List ℕ → Settings → ℕ → Target
-targetOf ram s command =
+abbrev pub targetWith : List ℕ → Settings → ℕ → Cell → Window → Target
+targetWith ram s command cell window =
     record {
-      cell = cellFor ram s command;
+      cell = cell;
       number = cellNumber (kindOf s command) (subaddressOf command);
-      window = cellWindow (cellFor ram s command);
+      window = window;
       broadcast = isBroadcast s command;
       illegal = isIllegal ram s command;
       busy = isBusy ram s command;
     }
+
+unfoldable pub targetOf : List ℕ → Settings → ℕ → Target
+targetOf ram s command = targetWith ram s command (cellFor ram s command) (cellWindow (cellFor ram s command))

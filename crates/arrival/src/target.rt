@@ -1,6 +1,6 @@
 // What a command is aimed at: the cell, its window, and whether the command is broadcast, illegal or busy.
 ghost use mathlib.Core.Path.{_≡_};
-ghost use Rattle.arrival.specs.Target.{cellFor, isIllegal, isBusy, targetOf};
+ghost use Rattle.arrival.specs.Target.{cellFor, isIllegal, isBusy, targetWith, targetOf};
 use cells::cell::Cell;
 use cells::cell::cell_at;
 use cells::cell::window_of;
@@ -44,13 +44,11 @@ fn is_busy(ram: &[u16], s: Settings, command: u16) -> bool
     either(is_busy_at(ram, is_own(s, command), command), s.busy_always)
 }
 
-pub fn target_of(ram: &[u16], s: Settings, command: u16) -> Target
-    ensures { λ r. ⌜ r ≡ targetOf (now (ram .entry)) s command ⌝ }
+// Over the cell and its window, for whoever has worked them out.
+pub fn target_with(ram: &[u16], s: Settings, command: u16, cell: Cell, window: Window) -> Target
+    ensures { λ r. ⌜ r ≡ targetWith (now (ram .entry)) s command cell window ⌝ }
 {
-    let cell = cell_for(ram, s, command);
     let number = cell_number(kind_of(s, command), command::subaddress(command)) as u16;
-    let scheme = cell.scheme;
-    let window = window_of(scheme, cell.pointer);
     Target {
         cell,
         number,
@@ -59,4 +57,13 @@ pub fn target_of(ram: &[u16], s: Settings, command: u16) -> Target
         illegal: is_illegal(ram, s, command),
         busy: is_busy(ram, s, command),
     }
+}
+
+pub fn target_of(ram: &[u16], s: Settings, command: u16) -> Target
+    ensures { λ r. ⌜ r ≡ targetOf (now (ram .entry)) s command ⌝ }
+{
+    let cell = cell_for(ram, s, command);
+    let scheme = cell.scheme;
+    let window = window_of(scheme, cell.pointer);
+    target_with(ram, s, command, cell, window)
 }

@@ -12,6 +12,9 @@ cell-at-settled κs a x y v w p q = (determined p q, refl)
 pub window-of-settled : Settled 0 cell.window_of.Kinds.ps cell.window_of.Kinds.r cell.window_of.Reads.Post
 window-of-settled κs a x y v w p q = (determined p q, refl)
 
+pub sound-within-settled : Settled 0 cell.sound_within.Kinds.ps cell.sound_within.Kinds.r cell.sound_within.Reads.Post
+sound-within-settled κs a x y v w p q = (determined p q, refl)
+
 pub sound-cell-settled : Settled 0 cell.sound_cell.Kinds.ps cell.sound_cell.Kinds.r cell.sound_cell.Reads.Post
 sound-cell-settled κs a x y v w p q = (determined p q, refl)
 
@@ -20,6 +23,9 @@ stack-pointer-settled κs a x y v w p q = (determined p q, refl)
 
 pub stack-window-settled : Settled 1 stack.stack_window.Kinds.ps stack.stack_window.Kinds.r stack.stack_window.Reads.Post
 stack-window-settled κs a x y v w p q = (determined p q, refl)
+
+pub stack-fits-settled : Settled 0 stack.stack_fits.Kinds.ps stack.stack_fits.Kinds.r stack.stack_fits.Reads.Post
+stack-fits-settled κs a x y v w p q = (determined p q, refl)
 
 pub stack-sound-settled : Settled 1 stack.stack_sound.Kinds.ps stack.stack_sound.Kinds.r stack.stack_sound.Reads.Post
 stack-sound-settled κs a x y v w p q = (determined p q, refl)

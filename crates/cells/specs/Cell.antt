@@ -72,7 +72,10 @@ cellWindow c = windowOf (c .scheme) (c .pointer)
 
 -- "A cell is sound if its pointer and window lie in 0000-0FFF, a double pointer is a multiple of 32, and the window
 -- meets neither a fixed area nor the active stack."
+abbrev pub soundWithin : ℕ → Window → Cell → Window → Bool
+soundWithin words stack c w =
+    ((ltb (c .pointer) words && fitsBelow w words) && doubleFits (c .scheme) (c .pointer))
+    && not (meetsFixed w || windowsMeet w stack)
+
 unfoldable pub soundCell : ℕ → Window → Cell → Bool
-soundCell words stack c =
-    ((ltb (c .pointer) words && fitsBelow (cellWindow c) words) && doubleFits (c .scheme) (c .pointer))
-    && not (meetsFixed (cellWindow c) || windowsMeet (cellWindow c) stack)
+soundCell words stack c = soundWithin words stack c (cellWindow c)

@@ -19,7 +19,9 @@ stackWindow ram s = aligned (stackPointer ram s) (s .«stack_size»)
 
 -- "The stack is sound if its pointer is a multiple of 4, at most 0FFC, and the block aligned to the stack size around
 -- it lies in RAM and meets no fixed area." 0FFC is four below the RAM's length.
+abbrev pub stackFits : ℕ → ℕ → Window → Bool
+stackFits words pointer block =
+    (eqb (pointer % 4) 0 && leb (pointer + 4) words) && (fitsBelow block words && not (meetsFixed block))
+
 unfoldable pub stackSound : List ℕ → Settings → Bool
-stackSound ram s =
-    (eqb (stackPointer ram s % 4) 0 && leb (stackPointer ram s + 4) (length ram))
-    && (fitsBelow (stackWindow ram s) (length ram) && not (meetsFixed (stackWindow ram s)))
+stackSound ram s = stackFits (length ram) (stackPointer ram s) (stackWindow ram s)

@@ -2,7 +2,7 @@
 ghost use mathlib.Core.Path.{_≡_};
 ghost use Prim.Native.Nat.{_<_};
 ghost use lib.ListN.{length};
-ghost use Rattle.cells.specs.Cell.{controlPart, sizeOf, doublesKind, pickScheme, schemeOf, cellAt, windowOf, doubleFits, soundCell};
+ghost use Rattle.cells.specs.Cell.{controlPart, sizeOf, doublesKind, pickScheme, schemeOf, cellAt, windowOf, doubleFits, soundWithin, soundCell};
 use memory::kind::Kind;
 use memory::kind::cell_number;
 use memory::map::control_place;
@@ -126,12 +126,20 @@ fn double_fits(scheme: Scheme, pointer: u16) -> bool
     }
 }
 
+// Over the cell and its window, for whoever has worked it out.
+pub fn sound_within(words: usize, stack: Window, c: Cell, w: Window) -> bool
+    ensures { λ r. ⌜ r ≡ soundWithin words stack c w ⌝ }
+{
+    let scheme = c.scheme;
+    let inside = both((c.pointer as usize) < words, fits_below(w, words));
+    let apart = no(either(meets_fixed(w), windows_meet(w, stack)));
+    both(both(inside, double_fits(scheme, c.pointer)), apart)
+}
+
 pub fn sound_cell(words: usize, stack: Window, c: Cell) -> bool
     ensures { λ r. ⌜ r ≡ soundCell words stack c ⌝ }
 {
     let scheme = c.scheme;
     let w = window_of(scheme, c.pointer);
-    let inside = both((c.pointer as usize) < words, fits_below(w, words));
-    let apart = no(either(meets_fixed(w), windows_meet(w, stack)));
-    both(both(inside, double_fits(scheme, c.pointer)), apart)
+    sound_within(words, stack, c, w)
 }

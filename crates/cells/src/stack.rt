@@ -1,6 +1,6 @@
 // The active stack: its pointer, its block, whether it is sound.
 ghost use mathlib.Core.Path.{_≡_};
-ghost use Rattle.cells.specs.Stack.{stackPointer, stackWindow, stackSound};
+ghost use Rattle.cells.specs.Stack.{stackPointer, stackWindow, stackFits, stackSound};
 use memory::map::stack_pointer_place;
 use memory::ram::word_at;
 use windows::window::Window;
@@ -25,12 +25,19 @@ pub fn stack_window(ram: &[u16], s: Settings) -> Window
     aligned_around(stack_pointer(ram, s), s.stack_size)
 }
 
+// Over the pointer and the block, for whoever has worked them out.
+pub fn stack_fits(words: usize, pointer: u16, block: Window) -> bool
+    ensures { λ r. ⌜ r ≡ stackFits words pointer block ⌝ }
+{
+    let placed = both(pointer % 4 == 0, (pointer as usize) + 4 <= words);
+    both(
+        placed,
+        both(fits_below(block, words), no(meets_fixed(block))),
+    )
+}
+
 pub fn stack_sound(ram: &[u16], s: Settings) -> bool
     ensures { λ r. ⌜ r ≡ stackSound (now (ram .entry)) s ⌝ }
 {
-    let pointer = stack_pointer(ram, s);
-    let w = stack_window(ram, s);
-    let end = ram.len();
-    let placed = both(pointer % 4 == 0, (pointer as usize) + 4 <= end);
-    both(placed, both(fits_below(w, end), no(meets_fixed(w))))
+    stack_fits(ram.len(), stack_pointer(ram, s), stack_window(ram, s))
 }

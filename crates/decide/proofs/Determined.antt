@@ -4,5 +4,5 @@ use mathlib.Core.Path.{refl}
 use Rattle.words.proofs.Settled.{determined, Settled}
 use Rattle.decide.proofs.plan
 
-pub plan-of-settled : Settled 1 plan.plan_of.Kinds.ps plan.plan_of.Kinds.r plan.plan_of.Reads.Post
-plan-of-settled κs a x y v w p q = (determined p q, refl)
+pub plan-for-settled : Settled 0 plan.plan_for.Kinds.ps plan.plan_for.Kinds.r plan.plan_for.Reads.Post
+plan-for-settled κs a x y v w p q = (determined p q, refl)

@@ -1,11 +1,9 @@
 // Rule 6: the entry on the stack.
 ghost use mathlib.Core.Path.{_≡_};
-ghost use Rattle.decide.specs.Entry.{entryOf};
-use cells::stack::stack_pointer;
-use cells::stack::stack_window;
+ghost use Rattle.decide.specs.Entry.{entryIn};
+use windows::window::Window;
 use windows::window::place;
 use windows::window::rolls_over;
-use words::settings::Settings;
 
 // Where the descriptor goes, where the stack pointer stands then, and whether it went round.
 pub struct Entry {
@@ -14,12 +12,12 @@ pub struct Entry {
     pub wrapped: bool,
 }
 
-pub(crate) fn entry_of(ram: &[u16], s: Settings) -> Entry
-    ensures { λ r. ⌜ r ≡ entryOf (now (ram .entry)) s ⌝ }
+// In the block around the stack pointer.
+pub(crate) fn entry_in(pointer: u16, block: Window) -> Entry
+    ensures { λ r. ⌜ r ≡ entryIn pointer block ⌝ }
 {
-    let block = stack_window(ram, s);
     Entry {
-        pointer: stack_pointer(ram, s),
+        pointer,
         after: (place(block, 4) % 65536) as u16,
         wrapped: rolls_over(block, 4),
     }

@@ -1,15 +1,15 @@
 // The plan of an accepted message: the deed in the cell, the entry on the stack, and the interrupt word.
 ghost use mathlib.Core.Path.{_≡_};
-ghost use Rattle.decide.specs.Plan.{interruptWord, planWith, planOf};
+ghost use Rattle.decide.specs.Plan.{interruptWord, planWith, planFrom};
 use crate::entry::Entry;
-use crate::entry::entry_of;
-use arrival::target::target_of;
+use crate::entry::entry_in;
+use arrival::target::Target;
 use deed::deed::Deed;
 use deed::deed::Signals;
 use deed::deed::deed_of;
 use records::value::Record;
+use windows::window::Window;
 use words::bits::word_of;
-use words::remembered::Remembered;
 use words::settings::Settings;
 
 pub struct Plan {
@@ -53,11 +53,11 @@ fn plan_with(deed: Deed, entry: Entry) -> Plan
     }
 }
 
-pub fn plan_of(ram: &[u16], s: Settings, remembered: Remembered, v: Record) -> Plan
-    ensures { λ r. ⌜ r ≡ planOf s (now (ram .entry)) remembered v ⌝ }
+// Of a message that the tests let through: they have worked out target, stack pointer and block.
+pub fn plan_for(s: Settings, target: Target, pointer: u16, block: Window, v: Record) -> Plan
+    ensures { λ r. ⌜ r ≡ planFrom s target pointer block v ⌝ }
 {
-    let target = target_of(ram, s, v.command);
     let deed = deed_of(s, target, v);
-    let entry = entry_of(ram, s);
+    let entry = entry_in(pointer, block);
     plan_with(deed, entry)
 }

@@ -3,11 +3,15 @@ ghost use mathlib.Core.Path.{_≡_};
 ghost use Rattle.deed.specs.Deed.{signalsOf, deedWith, deedOf};
 use crate::act::Act;
 use crate::act::act_of;
+use crate::act::act_with;
 use crate::motion::Motion;
 use crate::motion::motion_of;
 use crate::report::block_status;
 use crate::report::status_word;
 use arrival::target::Target;
+use records::fault::any_fault;
+use records::fault::quiet_faults;
+use records::fault::told_fault;
 use records::transfer::is_transfer;
 use records::value::Record;
 use records::value::bus_b;
@@ -75,9 +79,16 @@ fn deed_with(s: Settings, t: Target, v: Record, a: Act, m: Motion) -> Deed
     }
 }
 
+// Where no flag tells a fault, as of most messages, the compiler has a way of its own through all that follows.
 pub fn deed_of(s: Settings, t: Target, v: Record) -> Deed
     ensures { λ r. ⌜ r ≡ deedOf s t v ⌝ }
 {
+    if no(told_fault(v)) {
+        let faults = quiet_faults(t.broadcast, v);
+        let a = act_with(s, t, v, faults, no(any_fault(faults)));
+        let m = motion_of(s, t, a);
+        return deed_with(s, t, v, a, m);
+    }
     let a = act_of(s, t, v);
     let m = motion_of(s, t, a);
     deed_with(s, t, v, a, m)

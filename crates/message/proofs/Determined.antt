@@ -1,11 +1,9 @@
 -- The inputs determine the answer and every lent word: for each public function, any two results that its contract
 -- allows are equal. Each line speaks of the contract as the checker reads it (`Reads.Post`), so that none can drift
 -- from its function.
-use mathlib.Core.Path.{refl}
 use Rattle.words.proofs.Settled.{determined, Settled}
 use Rattle.message.proofs.perform
 use Rattle.message.proofs.serve
-use Rattle.message.proofs.tests
 
 -- the answer, and every word of RAM, reply and remembered state
 pub message-from-value-settled :
@@ -23,9 +21,6 @@ message-from-bytes-settled κs a x y v w p q =
       λ i. record { answer = determined (p .0) (q .0) i; remembered = state i .remembered },
       λ i. (state i .ram, (state i .reply, v .1 .1)),
     )
-
-pub late-refusal-settled : Settled 1 tests.late_refusal.Kinds.ps tests.late_refusal.Kinds.r tests.late_refusal.Reads.Post
-late-refusal-settled κs a x y v w p q = (determined p q, refl)
 
 pub perform-settled : Settled 2 perform.perform.Kinds.ps perform.perform.Kinds.r perform.perform.Reads.Post
 perform-settled κs a x y v w p q =

@@ -2,27 +2,35 @@
 use Prim.Native.Nat.{ℕ}
 use native.Mathlib.Omega.{arith}
 use mathlib.Core.Path.{_≡_, refl, sym, _∙_}
-use mathlib.Core.Bool.{Bool, true, false}
+use mathlib.Core.Bool.{Bool, true, false, not}
 use mathlib.Core.Logic.{⊎-elim}
-use mathlib.Core.List.{List}
+use mathlib.Core.List.{List, [], _∷_}
 use lib.ListN.{length}
 use borrow.Author.Tests.{eq-eqb, ne-eqb}
 use Rattle.words.specs.declared.settings.Settings.{Settings}
 use Rattle.words.specs.declared.remembered.Remembered.{Remembered}
-use Rattle.words.specs.Number.{ramLength}
-use Rattle.words.specs.Refusal.{firstOf}
+use Rattle.words.specs.Number.{ramLength, unsoundStack, unsoundCell}
+use Rattle.words.specs.Refusal.{Test, _when_, firstOf}
+use Rattle.words.proofs.Refusals.{first-stops, first-passes}
 use Rattle.words.proofs.Basics.{eq-or-ne, yes-or-no}
 use Rattle.records.specs.declared.value.Record.{Record}
 use Rattle.memory.specs.State.{State, stateOf}
 use Rattle.memory.specs.Map.{ramRefused}
 use Rattle.memory.specs.Writes.{applyWrites}
+use Rattle.windows.specs.declared.window.Window.{Window}
+use Rattle.cells.specs.declared.cell.Cell.{Cell}
+use Rattle.cells.specs.Cell.{windowOf, soundWithin, soundCell}
+use Rattle.cells.specs.Stack.{stackPointer, stackWindow, stackFits, stackSound}
+use Rattle.arrival.specs.declared.target.Target.{Target}
+use Rattle.arrival.specs.Target.{cellFor, targetWith, targetOf}
+use Rattle.decide.specs.Entry.{entryOf}
 use Rattle.decide.specs.declared.plan.Plan.{Plan}
-use Rattle.decide.specs.Plan.{planOf}
+use Rattle.decide.specs.Plan.{planFrom, planOf}
 use Rattle.carry.specs.Writes.{writesOf}
 use Rattle.carry.specs.Reply.{replyWrites}
 use Rattle.message.specs.declared.perform.Performed.{Performed}
 use Rattle.message.specs.declared.perform.Performed.the-variants.{Refused, Done}
-use Rattle.message.specs.Tests.{earlyTests, commandTests}
+use Rattle.message.specs.Tests.{cellUnsound, earlyTests, addressTests, commandTests}
 use Rattle.message.specs.declared.answer.Outcome.{Outcome}
 use Rattle.message.specs.Answer.{refusedWith, acceptedWith, answerFor}
 use Rattle.message.specs.Message.{rememberedWith, carriedOut, stateFor}
@@ -112,6 +120,57 @@ module _ (s : Settings) (before : Remembered) (v : Record) (ram reply : List ℕ
     is-performed z p l m planned sent carried =
         let k = eq-eqb number 0 (passes ∙ z) in
         (rw (k, planned), (rw (k, carried, planned), rw (k, sent, planned)))
+
+-- ---- the tests about a command, one after the other
+
+module _ (ram : List ℕ) (s : Settings) (command : ℕ) (n : ℕ) (e : n ≡ firstOf (addressTests s command)) where
+  abbrev tests : List Test
+  tests = unsoundStack when not (stackSound ram s) ∷ unsoundCell when cellUnsound ram s command ∷ []
+
+  -- another's command, or one to subaddress 0 or 31
+  pub by-address : (n ≡ 0 → ⊥) → n ≡ firstOf (commandTests ram s command)
+  by-address m = e ∙ sym (first-stops (addressTests s command) tests refl (λ z. m (e ∙ z)))
+
+  module _ (z : n ≡ 0) (a : Bool) (f : a ≡ not (stackSound ram s)) where
+    rest : firstOf (commandTests ram s command) ≡ firstOf tests
+    rest = first-passes (addressTests s command) tests refl (sym e ∙ z)
+
+    pub by-stack : a ≡ true → unsoundStack ≡ firstOf (commandTests ram s command)
+    unfolding firstOf
+    by-stack h = let t : not (stackSound ram s) ≡ true = sym f ∙ h in sym (rest ∙ rw t)
+
+    module _ (g : a ≡ false) (b : Bool) (c : b ≡ cellUnsound ram s command) where
+      pub by-cell : b ≡ true → unsoundCell ≡ firstOf (commandTests ram s command)
+      unfolding firstOf
+      by-cell h =
+          let t : not (stackSound ram s) ≡ false = sym f ∙ g in
+          let u : cellUnsound ram s command ≡ true = sym c ∙ h in
+          sym (rest ∙ rw (t, u))
+
+      pub by-none : b ≡ false → 0 ≡ firstOf (commandTests ram s command)
+      unfolding firstOf
+      by-none h =
+          let t : not (stackSound ram s) ≡ false = sym f ∙ g in
+          let u : cellUnsound ram s command ≡ false = sym c ∙ h in
+          sym (rest ∙ rw (t, u))
+
+-- ---- what is worked out once, by the tests, is what the definitions work out
+
+module _ (ram : List ℕ) (s : Settings) (pointer : ℕ) (block : Window) (p : pointer ≡ stackPointer ram s) (w : block ≡ stackWindow ram s) where
+  pub stack-asked : (a b : Bool) → a ≡ stackFits (length ram) pointer block → b ≡ not a → b ≡ not (stackSound ram s)
+  unfolding stackSound
+  stack-asked a b e f = rw (f, e, w, p)
+
+  module _ (v : Record) (c : Cell) (window : Window) (e : c ≡ cellFor ram s (v .command)) (f : window ≡ windowOf (c .scheme) (c .pointer)) where
+    pub cell-asked : (a b : Bool) → a ≡ soundWithin (length ram) block c window → b ≡ not a → b ≡ cellUnsound ram s (v .command)
+    unfolding cellUnsound soundCell
+    cell-asked a b g h = rw (h, g, f, e, w)
+
+    pub plan-worked-out :
+        (before : Remembered) (t : Target) (q : Plan) → t ≡ targetWith ram s (v .command) c window →
+        q ≡ planFrom s t pointer block v → q ≡ planOf s ram before v
+    unfolding planOf targetOf entryOf
+    plan-worked-out before t q g h = rw (h, g, f, e, w, p)
 
 -- after the early tests the number is that of the command's
 pub command-number :

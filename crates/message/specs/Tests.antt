@@ -33,14 +33,15 @@ earlyTests words room s =
 abbrev pub recordTests : Heard → List Test
 recordTests h = recordLength when h .badLength ∷ recordLayout when h .badLayout ∷ []
 
--- about the command
+-- about the command: its address and subaddress
+abbrev pub addressTests : Settings → ℕ → List Test
+addressTests s command = otherAddress when isNotOurs s command ∷ modeSubaddress when isModeSubaddress command ∷ []
+
+-- and what it finds in RAM
 abbrev pub commandTests : List ℕ → Settings → ℕ → List Test
 commandTests ram s command =
-    otherAddress when isNotOurs s command
-    ∷ modeSubaddress when isModeSubaddress command
-    ∷ unsoundStack when not (stackSound ram s)
-    ∷ unsoundCell when cellUnsound ram s command
-    ∷ []
+    addressTests s command
+    ++ (unsoundStack when not (stackSound ram s) ∷ unsoundCell when cellUnsound ram s command ∷ [])
 
 -- "Tested in this order"
 abbrev pub testsFor : Settings → Heard → State → List Test

@@ -6,14 +6,24 @@ ghost use Rattle.memory.specs.State.{stateOf};
 ghost use Rattle.decide.specs.Plan.{planOf};
 ghost use Rattle.message.specs.Message.{stateFor};
 ghost use Rattle.message.specs.Performed.{performTests, performedWith};
-use crate::tests::late_refusal;
+use crate::tests::address_refusal;
+use arrival::target::cell_for;
+use arrival::target::target_with;
 use carry::carry::carry_out;
 use carry::reply::send;
+use cells::cell::sound_within;
+use cells::cell::window_of;
+use cells::stack::stack_fits;
+use cells::stack::stack_pointer;
+use cells::stack::stack_window;
 use decide::plan::Plan;
-use decide::plan::plan_of;
+use decide::plan::plan_for;
 use memory::map::ram_refused;
 use records::value::Record;
+use words::choose::no;
 use words::number::RAM_LENGTH;
+use words::number::UNSOUND_CELL;
+use words::number::UNSOUND_STACK;
 use words::remembered::Remembered;
 use words::settings::Settings;
 
@@ -23,8 +33,8 @@ pub enum Performed {
     Done(Plan),
 }
 
-// The test of RAM's length also tells the compiler how long it is, which then leaves out the bounds tests of fixed
-// places.
+// Stack, cell and window are worked out once, by the tests, and handed on to the plan. The test of RAM's length also
+// tells the compiler how long it is, which then leaves out the bounds tests of fixed places.
 pub fn perform(
     ram: &mut [u16],
     reply: &mut [u16],
@@ -39,11 +49,23 @@ pub fn perform(
     if ram_refused(ram.len()) {
         return Performed::Refused(RAM_LENGTH);
     }
-    let number = late_refusal(ram, s, v.command);
+    let number = address_refusal(s, v.command);
     if number != 0 {
         return Performed::Refused(number);
     }
-    let plan = plan_of(ram, s, before, v);
+    let pointer = stack_pointer(ram, s);
+    let block = stack_window(ram, s);
+    if no(stack_fits(ram.len(), pointer, block)) {
+        return Performed::Refused(UNSOUND_STACK);
+    }
+    let cell = cell_for(ram, s, v.command);
+    let scheme = cell.scheme;
+    let window = window_of(scheme, cell.pointer);
+    if no(sound_within(ram.len(), block, cell, window)) {
+        return Performed::Refused(UNSOUND_CELL);
+    }
+    let target = target_with(ram, s, v.command, cell, window);
+    let plan = plan_for(s, target, pointer, block, v);
     let deed = plan.deed;
     send(ram, reply, deed);
     carry_out(ram, s, plan, v);

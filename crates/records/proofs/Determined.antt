@@ -33,6 +33,12 @@ expected-words-settled κs a x y v w p q = (determined p q, refl)
 pub faults-for-settled : Settled 0 fault.faults_for.Kinds.ps fault.faults_for.Kinds.r fault.faults_for.Reads.Post
 faults-for-settled κs a x y v w p q = (determined p q, refl)
 
+pub told-fault-settled : Settled 0 fault.told_fault.Kinds.ps fault.told_fault.Kinds.r fault.told_fault.Reads.Post
+told-fault-settled κs a x y v w p q = (determined p q, refl)
+
+pub quiet-faults-settled : Settled 0 fault.quiet_faults.Kinds.ps fault.quiet_faults.Kinds.r fault.quiet_faults.Reads.Post
+quiet-faults-settled κs a x y v w p q = (determined p q, refl)
+
 pub is-transfer-settled : Settled 0 transfer.is_transfer.Kinds.ps transfer.is_transfer.Kinds.r transfer.is_transfer.Reads.Post
 is-transfer-settled κs a x y v w p q = (determined p q, refl)
 

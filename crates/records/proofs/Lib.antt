@@ -2,4 +2,5 @@ pub mod Turns
 pub mod Rules
 pub mod Before
 pub mod Failing
+pub mod Quiet
 pub mod Determined

@@ -1,8 +1,9 @@
 // Rule 1: the faults of a message.
 ghost use mathlib.Core.Path.{_≡_};
-ghost use Rattle.records.specs.Fault.{expectedWords, faultsOf, faultsFor, anyFault};
+ghost use Rattle.records.specs.Fault.{expectedWords, toldFault, faultsOf, faultsFor, quietFaults, anyFault};
 use crate::transfer::bad_second;
 use crate::transfer::no_status;
+use crate::transfer::transfer_fails;
 use crate::transfer::wrong_gap;
 use crate::value::Record;
 use crate::value::invalid_word;
@@ -30,6 +31,13 @@ pub fn expected_words(command: u16) -> u16
     pick(command::transmit(command), 0, command::word_count(command))
 }
 
+// Whether a flag tells a fault.
+pub fn told_fault(v: Record) -> bool
+    ensures { λ r. ⌜ r ≡ toldFault v ⌝ }
+{
+    either(either(wrong_sync(v), invalid_word(v)), transfer_fails(v))
+}
+
 // The caller says how many words are expected, and whether the contents are at fault.
 pub fn faults_of(expected: u16, contents: bool, v: Record) -> Faults
     ensures { λ r. ⌜ r ≡ faultsOf expected contents v ⌝ }
@@ -39,10 +47,7 @@ pub fn faults_of(expected: u16, contents: bool, v: Record) -> Faults
     let no_status = no_status(v);
     let gap = wrong_gap(v);
     let second = bad_second(v);
-    let told = either(
-        either(sync, invalid),
-        either(no_status, either(gap, second)),
-    );
+    let told = told_fault(v);
     Faults {
         sync,
         invalid,
@@ -62,6 +67,23 @@ pub fn faults_for(broadcast: bool, v: Record) -> Faults
         both(broadcast, command::transmit(v.command)),
         v,
     )
+}
+
+// The faults of a message of which no flag tells one. The noes are written out, so that the compiler leaves out all that
+// they decide.
+pub fn quiet_faults(broadcast: bool, v: Record) -> Faults
+    ensures { λ r. ⌜ r ≡ quietFaults broadcast v ⌝ }
+{
+    let expected = expected_words(v.command);
+    Faults {
+        sync: false,
+        invalid: false,
+        count: no(v.count as u16 == expected),
+        contents: both(broadcast, command::transmit(v.command)),
+        no_status: false,
+        gap: false,
+        second: false,
+    }
 }
 
 pub fn any_fault(f: Faults) -> bool

@@ -31,15 +31,19 @@ pub fn bad_second(v: Record) -> bool
     v.flags / 64 % 2 == 1
 }
 
-fn transfer_fails(v: Record) -> bool
+pub(crate) fn transfer_fails(v: Record) -> bool
     ensures { λ r. ⌜ r ≡ transferFails v ⌝ }
 {
     either(no_status(v), either(wrong_gap(v), bad_second(v)))
 }
 
+// Most records are no transfer and have none of its flags.
 pub(crate) fn breaks_transfer(v: Record) -> bool
     ensures { λ r. ⌜ r ≡ breaksTransfer v ⌝ }
 {
+    if v.flags < 8 {
+        return no(v.transmit_command == 0);
+    }
     let transfer = is_transfer(v);
     let fails = transfer_fails(v);
     let set_without = both(no(transfer), either(fails, no(v.transmit_command == 0)));

@@ -3,8 +3,9 @@
 //!
 //! Prints one line for each length of trace: the records, seconds of processor
 //! time of either program, the ratio of the two (over 1 means that the proved
-//! one is faster) as median, smallest and largest of the repeats, and the most
-//! memory that either held, in kilobytes.
+//! one is faster) as median, smallest and largest of the repeats, the most
+//! memory that either held, in kilobytes, and the seconds that `cat` takes of
+//! the same bytes, as the least that reading and writing can cost.
 
 use std::env;
 use std::error::Error;
@@ -55,21 +56,26 @@ fn measure(
     proved: &[String],
     file: &Path,
 ) -> Result<(), Box<dyn Error>> {
-    let mut times = [Vec::new(), Vec::new()];
+    let cat = ["cat".to_owned()];
+    let mut times = [Vec::new(), Vec::new(), Vec::new()];
     let mut ratios = Vec::new();
-    let mut memory = [0, 0];
+    let mut memory = [0; 3];
     for _ in 0..REPEATS {
-        let runs = [spent(plain, file)?, spent(proved, file)?];
+        let runs = [
+            spent(plain, file)?,
+            spent(proved, file)?,
+            spent(&cat, file)?,
+        ];
         for (side, spent) in runs.iter().enumerate() {
             times[side].push(spent.seconds);
             memory[side] = spent.kilobytes.max(memory[side]);
         }
         ratios.push(runs[0].seconds / runs[1].seconds);
     }
-    let [plain, proved] = times.map(|times| Spread::of(times).median);
+    let [plain, proved, cat] = times.map(|times| Spread::of(times).median);
     let ratios = Spread::of(ratios);
-    let [plain_memory, proved_memory] = memory;
-    println!("{records}|{plain:.3}|{proved:.3}|{ratios}|{plain_memory}|{proved_memory}");
+    let [plain_memory, proved_memory, _] = memory;
+    println!("{records}|{plain:.4}|{proved:.4}|{ratios}|{plain_memory}|{proved_memory}|{cat:.4}");
     Ok(())
 }
 

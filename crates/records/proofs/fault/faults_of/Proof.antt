@@ -1,6 +1,5 @@
 -- `faults_of` meets its contract: the same seven tests.
 use borrow.Author.Needs.{needs}
-use Rattle.records.specs.Transfer.{transferFails}
 use Rattle.records.specs.Fault.{faultsOf}
 use Rattle.records.proofs.fault.faults_of.Statement.{statement}
 use Rattle.records.proofs.fault.faults_of.Tie as tie
@@ -20,17 +19,8 @@ wrong-gap-requires c κs = search needs
 bad-second-requires : tie.Need-bad-second-requires
 bad-second-requires c κs = search needs
 
-either-requires : tie.Need-either-requires
-either-requires c κs = search needs
-
-either-requires-2 : tie.Need-either-requires-2
-either-requires-2 c κs = search needs
-
-either-requires-3 : tie.Need-either-requires-3
-either-requires-3 c κs = search needs
-
-either-requires-4 : tie.Need-either-requires-4
-either-requires-4 c κs = search needs
+told-fault-requires : tie.Need-told-fault-requires
+told-fault-requires c κs = search needs
 
 cast-no : tie.Need-cast-no
 cast-no c = search needs
@@ -45,21 +35,18 @@ both-requires : tie.Need-both-requires
 both-requires c κs = search needs
 
 returns : tie.Need-returns
-unfolding faultsOf transferFails
+unfolding faultsOf
 returns c =
     rw (
       c .both .ensures,
       c .before .no2 .ensures,
       c .before .before .no .ensures,
-      c .before .before .before .before .either4 .ensures,
-      c .before .before .before .before .before .either3 .ensures,
-      c .before .before .before .before .before .before .either2 .ensures,
-      c .before .before .before .before .before .before .before .either .ensures,
-      c .before .before .before .before .before .before .before .before .bad-second .ensures,
-      c .before .before .before .before .before .before .before .before .before .wrong-gap .ensures,
-      c .before .before .before .before .before .before .before .before .before .before .no-status .ensures,
-      c .before .before .before .before .before .before .before .before .before .before .before .invalid-word .ensures,
-      c .before .before .before .before .before .before .before .before .before .before .before .before .wrong-sync .ensures,
+      c .before .before .before .before .told-fault .ensures,
+      c .before .before .before .before .before .bad-second .ensures,
+      c .before .before .before .before .before .before .wrong-gap .ensures,
+      c .before .before .before .before .before .before .before .no-status .ensures,
+      c .before .before .before .before .before .before .before .before .invalid-word .ensures,
+      c .before .before .before .before .before .before .before .before .before .wrong-sync .ensures,
     )
 
 pub faults-of-spec : {M : Type 1} → statement M
@@ -71,10 +58,7 @@ faults-of-spec =
     no-status-requires
     wrong-gap-requires
     bad-second-requires
-    either-requires
-    either-requires-2
-    either-requires-3
-    either-requires-4
+    told-fault-requires
     cast-no
     no-requires
     no-requires-2
