@@ -11,9 +11,10 @@ use Rattle.memory.specs.Map.{lookupTable, stackPointerPlace}
 use Rattle.deed.specs.declared.deed.Deed.{Deed}
 use Rattle.decide.specs.declared.entry.Entry.{Entry}
 use Rattle.decide.specs.declared.plan.Plan.{Plan}
-use Rattle.carry.specs.Writes.{dataWrites, pointerWrites, descriptorOf, entryWrites, deedWrites, stackWrites, writesOf}
+use Rattle.carry.specs.Writes.{pointerWrites, descriptorOf, entryWrites, deedWrites, stackWrites, writesOf}
 use Rattle.memory.specs.Writes.{applyWrites, writesTo}
-use Rattle.carry.specs.Reply.{sentWrites, replyWrites}
+use Rattle.copies.specs.Copies.{dataWrites, sentWrites}
+use Rattle.carry.specs.Reply.{replyWrites}
 use Rattle.memory.proofs.Writes.{apply-append}
 
 -- the pointer where it moves, and where it stays

@@ -1,4 +1,3 @@
 pub mod Replied
 pub mod Carried
-pub mod TwoRuns
 pub mod Determined

@@ -5,17 +5,12 @@ use mathlib.Core.List.{List, [], _∷_, _++_}
 use lib.ListN.{getD}
 use Rattle.records.specs.declared.value.Record.{Record}
 use Rattle.words.specs.declared.settings.Settings.{Settings}
-use Rattle.windows.specs.declared.window.Window.{Window}
 use Rattle.memory.specs.Writes.{Write, writesTo}
 use Rattle.memory.specs.Map.{lookupPlace, stackPointerPlace}
-use Rattle.windows.specs.Window.{placeOf}
+use Rattle.copies.specs.Copies.{dataWrites}
 use Rattle.deed.specs.declared.deed.Deed.{Deed}
 use Rattle.decide.specs.declared.entry.Entry.{Entry}
 use Rattle.decide.specs.declared.plan.Plan.{Plan}
-
--- rule 3: "from the lookup pointer on, at rising addresses, wrapping inside a circular window"
-abbrev pub dataWrites : Window → List ℕ → ℕ → List Write
-dataWrites w words n = writesTo (placeOf w) (λ k. getD words k 0) n
 
 -- the lookup pointer, only where rule 5 moves or flips it with k > 0
 unfoldable pub pointerWrites : Settings → Deed → List Write

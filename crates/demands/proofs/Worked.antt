@@ -23,7 +23,8 @@ use Rattle.deed.specs.Deed.{deedWith, deedOf}
 use Rattle.decide.specs.declared.plan.Plan.{Plan}
 use Rattle.decide.specs.Plan.{planWith, planOf}
 use Rattle.decide.specs.Entry.{entryOf}
-use Rattle.carry.specs.Writes.{dataWrites, pointerWrites, descriptorOf, entryWrites, stackPointerWrites, deedWrites, stackWrites, writesOf}
+use Rattle.copies.specs.Copies.{dataWrites}
+use Rattle.carry.specs.Writes.{pointerWrites, descriptorOf, entryWrites, stackPointerWrites, deedWrites, stackWrites, writesOf}
 use Rattle.carry.specs.Reply.{replyWords}
 use Rattle.carry.proofs.Replied.{reply-front, sent-few}
 use Rattle.message.specs.declared.answer.Answer.{Answer}

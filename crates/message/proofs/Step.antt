@@ -34,7 +34,8 @@ use Rattle.deed.specs.Deed.{deedWith, deedOf}
 use Rattle.decide.specs.Entry.{entryOf}
 use Rattle.deed.proofs.Reach.{deed-stored}
 use Rattle.deed.proofs.Contained.{pointer-exact}
-use Rattle.carry.specs.Writes.{dataWrites, pointerWrites, descriptorOf, entryWrites, stackPointerWrites, deedWrites, stackWrites, writesOf}
+use Rattle.copies.specs.Copies.{dataWrites}
+use Rattle.carry.specs.Writes.{pointerWrites, descriptorOf, entryWrites, stackPointerWrites, deedWrites, stackWrites, writesOf}
 use Rattle.memory.specs.Writes.{applyWrites, writesTo}
 use Rattle.memory.proofs.Writes.{apply-append, length-apply}
 use Rattle.memory.proofs.Footprint.{Avoids, untouched, avoids-append, avoids-places, written}

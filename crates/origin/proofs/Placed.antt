@@ -21,7 +21,8 @@ use Rattle.windows.specs.Window.{placeOf}
 use Rattle.windows.proofs.Wrap.{place-from, place-below, places-differ}
 use Rattle.deed.specs.declared.deed.Deed.{Deed}
 use Rattle.decide.specs.declared.plan.Plan.{Plan}
-use Rattle.carry.specs.Writes.{dataWrites, pointerWrites, descriptorOf, entryWrites, deedWrites, stackWrites, writesOf}
+use Rattle.copies.specs.Copies.{dataWrites}
+use Rattle.carry.specs.Writes.{pointerWrites, descriptorOf, entryWrites, deedWrites, stackWrites, writesOf}
 use Rattle.carry.proofs.Replied.{length-writes}
 use Rattle.origin.specs.declared.origin.Part.{Part}
 use Rattle.origin.specs.declared.origin.Part.the-variants.{Data, Pointer, Stack, StackPointer}

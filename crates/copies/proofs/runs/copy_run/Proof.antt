@@ -6,9 +6,9 @@ use mathlib.Core.Path.{_≡_, refl}
 use lib.ListN.{length}
 use Rattle.memory.specs.Writes.{applyWrites, writesTo}
 use Rattle.memory.proofs.Writes.{apply-more, length-apply}
-use Rattle.carry.specs.Runs.{runWrites}
-use Rattle.carry.proofs.runs.copy_run.Statement.{statement}
-use Rattle.carry.proofs.runs.copy_run.Tie as tie
+use Rattle.copies.specs.Runs.{runWrites}
+use Rattle.copies.proofs.runs.copy_run.Statement.{statement}
+use Rattle.copies.proofs.runs.copy_run.Tie as tie
 
 abbrev Inv-loop : tie.InvT-loop
 Inv-loop to₀ at from first n k₀ to k =

@@ -1,8 +1,8 @@
 -- `runs_of` meets its contract: nothing wraps.
 use borrow.Author.Needs.{needs}
-use Rattle.carry.proofs.TwoRuns.{runs-made}
-use Rattle.carry.proofs.runs.runs_of.Statement.{statement}
-use Rattle.carry.proofs.runs.runs_of.Tie as tie
+use Rattle.copies.proofs.TwoRuns.{runs-made}
+use Rattle.copies.proofs.runs.runs_of.Statement.{statement}
+use Rattle.copies.proofs.runs.runs_of.Tie as tie
 
 cast-start : tie.Need-cast-start
 cast-start c = search needs

@@ -1,8 +1,8 @@
 -- `goes_once` meets its contract: the three tests.
 use borrow.Author.Needs.{needs}
-use Rattle.carry.specs.Runs.{goesOnce}
-use Rattle.carry.proofs.runs.goes_once.Statement.{statement}
-use Rattle.carry.proofs.runs.goes_once.Tie as tie
+use Rattle.copies.specs.Runs.{goesOnce}
+use Rattle.copies.proofs.runs.goes_once.Statement.{statement}
+use Rattle.copies.proofs.runs.goes_once.Tie as tie
 
 both-requires : tie.Need-both-requires
 both-requires c κs = search needs

@@ -3,7 +3,7 @@ ghost use mathlib.Core.Path.{_≡_};
 ghost use Prim.Native.Nat.{_+_, _≤_};
 ghost use lib.ListN.{length};
 ghost use Rattle.memory.specs.Writes.{applyWrites};
-ghost use Rattle.carry.specs.Runs.{runWrites, goesOnce, runsOf};
+ghost use Rattle.copies.specs.Runs.{runWrites, goesOnce, runsOf};
 use windows::window::Window;
 use windows::window::fits_below;
 use words::choose::both;

@@ -3,9 +3,9 @@ use borrow.Author.Needs.{needs}
 use native.Mathlib.Omega.{arith}
 use lib.ListN.{length}
 use borrow.Author.Tests.{leb-true}
-use Rattle.carry.proofs.TwoRuns.{goes-once-says, two-runs, stored-in-runs}
-use Rattle.carry.proofs.carry.store_words.Statement.{statement}
-use Rattle.carry.proofs.carry.store_words.Tie as tie
+use Rattle.copies.proofs.TwoRuns.{goes-once-says, two-runs, stored-in-runs}
+use Rattle.copies.proofs.store.store_words.Statement.{statement}
+use Rattle.copies.proofs.store.store_words.Tie as tie
 
 goes-once-requires : tie.Need-goes-once-requires
 goes-once-requires c κs = search needs

@@ -6,7 +6,7 @@ use lib.Dec.{ltb, leb}
 use lib.ListN.{getD}
 use Rattle.windows.specs.declared.window.Window.{Window}
 use Rattle.windows.specs.Window.{fitsBelow}
-use Rattle.carry.specs.declared.runs.Runs.{Runs}
+use Rattle.copies.specs.declared.runs.Runs.{Runs}
 use Rattle.memory.specs.Writes.{Write, writesTo}
 
 -- n words of a list, beginning with its place `first`, straight on from place `at`

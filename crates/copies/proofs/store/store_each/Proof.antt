@@ -1,32 +1,29 @@
--- `send_each` meets its contract. The loop's invariant: the first `k` words are in the reply.
+-- `store_each` meets its contract. The loop's invariant: the first `k` writes are made.
 use borrow.Author.Needs.{needs}
-use Prim.Native.Nat.{_≤_, _-_}
 use native.Mathlib.Omega.{arith}
+use Prim.Native.Nat.{_≤_, _-_}
 use mathlib.Core.Path.{_≡_, refl}
+use Rattle.copies.specs.Copies.{dataWrites}
 use Rattle.memory.specs.Writes.{applyWrites, writesTo}
-use Rattle.carry.specs.Reply.{sentWrites}
 use Rattle.memory.proofs.Writes.{apply-more, length-apply}
-use Rattle.carry.proofs.reply.send_each.Statement.{statement}
-use Rattle.carry.proofs.reply.send_each.Tie as tie
+use Rattle.copies.proofs.store.store_each.Statement.{statement}
+use Rattle.copies.proofs.store.store_each.Tie as tie
 
 abbrev Inv-loop : tie.InvT-loop
-Inv-loop ram reply₀ w n k₀ reply k = (k ≤ n) × (reply ≡ applyWrites (sentWrites ram w k) reply₀)
+Inv-loop ram₀ w words n k₀ ram k = (k ≤ n) × (ram ≡ applyWrites (dataWrites w words k) ram₀)
 
 abbrev μ-loop : tie.MeasureT-loop
-μ-loop ram reply₀ w n k₀ reply k = n - k
+μ-loop ram₀ w words n k₀ ram k = n - k
 
 loop-holds : tie.Need-loop-holds Inv-loop μ-loop
 unfolding applyWrites writesTo
 loop-holds c = (omega arith, refl)
 
-cast-put : tie.Need-cast-put Inv-loop μ-loop
-cast-put c = search needs
-
-add-put : tie.Need-add-put Inv-loop μ-loop
-add-put c = search needs
-
 place-requires : tie.Need-place-requires Inv-loop μ-loop
 place-requires c κs = search needs
+
+cast-word-at : tie.Need-cast-word-at Inv-loop μ-loop
+cast-word-at c = search needs
 
 word-at-requires : tie.Need-word-at-requires Inv-loop μ-loop
 word-at-requires c κs = search needs
@@ -41,11 +38,10 @@ loop-less : tie.Need-loop-less Inv-loop μ-loop
 loop-less c = search needs
 
 loop-again : tie.Need-loop-again Inv-loop μ-loop
-loop-again c =
-    let p = c .before .before in
-    let k = p .before .before in
-    let l = k .before .before .before .loop in
-    (omega arith, rw (apply-more, p .put .ensures, p .before .word-at .ensures, k .place .ensures, l .inv .1))
+loop-again c = let p = c .before .before in
+    let q = p .before .before in
+    let l = q .before .before .before .loop in
+    (omega arith, rw (apply-more, p .put .ensures, p .before .word-at .ensures, q .place .ensures, l .inv .1))
 
 same-length : tie.Need-same-length Inv-loop μ-loop
 same-length c = rw (c .before .loop .inv .1, length-apply)
@@ -53,16 +49,15 @@ same-length c = rw (c .before .loop .inv .1, length-apply)
 returns : tie.Need-returns Inv-loop μ-loop
 returns c = let e : c .before .loop .k ≡ c .before .before .before .before .args .n = omega arith in rw e at (c .before .loop .inv .1)
 
-pub send-each-spec : {M : Type 1} → statement M
-send-each-spec =
+pub store-each-spec : {M : Type 1} → statement M
+store-each-spec =
     tie.close
     (tie.spec
     Inv-loop
     μ-loop
     loop-holds
-    cast-put
-    add-put
     place-requires
+    cast-word-at
     word-at-requires
     put-requires
     add-k

@@ -15,10 +15,10 @@ use Rattle.windows.specs.Window.{placeOf, rollsOver}
 use Rattle.windows.proofs.Wrap.{place-straight, place-wrapped}
 use Rattle.memory.specs.Writes.{Write, applyWrites, writesTo}
 use Rattle.memory.proofs.Writes.{apply-append}
-use Rattle.carry.specs.declared.runs.Runs.{Runs}
-use Rattle.carry.specs.Writes.{dataWrites}
-use Rattle.carry.specs.Reply.{sentWrites}
-use Rattle.carry.specs.Runs.{runWrites, goesOnce, runsOf}
+use Rattle.copies.specs.declared.runs.Runs.{Runs}
+use Rattle.copies.specs.Copies.{dataWrites}
+use Rattle.copies.specs.Copies.{sentWrites}
+use Rattle.copies.specs.Runs.{runWrites, goesOnce, runsOf}
 
 -- the window's end is as far from the pointer as the size is from the offset
 pub runs-made :
