@@ -15,7 +15,7 @@ use Rattle.words.proofs.Commands.{word-count-to}
 use Rattle.windows.specs.Window.{placeOf}
 use Rattle.deed.specs.declared.deed.Deed.{Deed}
 use Rattle.arrival.specs.declared.target.Target.{Target}
-use Rattle.deed.specs.Act.{wordsSent, actWith, actOf}
+use Rattle.acts.specs.Act.{wordsSent, actWith, actOf}
 use Rattle.deed.specs.Deed.{deedWith, deedOf}
 use Rattle.memory.specs.Writes.{Write, applyWrites, writesTo}
 use Rattle.carry.specs.Reply.{replyWrites, replyWords}

@@ -5,7 +5,7 @@ use Rattle.words.specs.declared.settings.Settings.{Settings}
 use Rattle.windows.specs.declared.window.Window.{Window}
 use Rattle.windows.specs.Window.{placeOf, rollsOver}
 use Rattle.cells.specs.Stack.{stackPointer, stackWindow}
-use Rattle.deed.specs.Motion.{pointerTo}
+use Rattle.acts.specs.Motion.{pointerTo}
 use Rattle.decide.specs.declared.entry.Entry.{Entry}
 
 -- "at the stack pointer .. The stack pointer moves on by 4, wrapping."

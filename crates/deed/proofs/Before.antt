@@ -10,11 +10,12 @@ use Rattle.words.specs.Command.{transmits}
 use Rattle.records.specs.declared.value.Record.{Record}
 use Rattle.records.specs.Transfer.{isTransfer}
 use Rattle.records.specs.Value.{onBusB, hasWrongSync, hasInvalidWord}
-use Rattle.records.specs.Fault.{expectedWords, faultsFor, anyFault}
-use Rattle.records.proofs.Before.{plain, faults-before}
+use Rattle.faults.specs.Fault.{expectedWords, faultsFor, anyFault}
+use Rattle.records.proofs.Before.{plain}
+use Rattle.faults.proofs.Before.{faults-before}
 use Rattle.arrival.specs.declared.target.Target.{Target}
-use Rattle.deed.specs.Act.{actWith, actOf}
-use Rattle.deed.specs.Motion.{motionOf}
+use Rattle.acts.specs.Act.{actWith, actOf}
+use Rattle.acts.specs.Motion.{motionOf}
 use Rattle.deed.specs.Deed.{deedWith, deedOf}
 use Rattle.deed.specs.Report.{blockStatus}
 

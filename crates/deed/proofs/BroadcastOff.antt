@@ -13,7 +13,7 @@ use Rattle.words.proofs.Basics.{not-both}
 use Rattle.words.proofs.BitLaws.{bit-small}
 use Rattle.words.proofs.SettingsLaws.{settings-agreed, broadcasts-off, ours}
 use Rattle.records.specs.declared.value.Record.{Record}
-use Rattle.records.specs.Fault.{faultsOf, faultsFor}
+use Rattle.faults.specs.Fault.{faultsOf, faultsFor}
 use Rattle.arrival.specs.declared.target.Target.{Target}
 use Rattle.arrival.specs.Target.{targetOf}
 use Rattle.deed.specs.Report.{statusBits, statusWord}

@@ -10,7 +10,7 @@ use Rattle.windows.specs.Window.{placeOf}
 use Rattle.cells.specs.Cell.{windowOf}
 use Rattle.windows.proofs.Wrap.{place-from, place-below, SameRun, double-flips}
 use Rattle.cells.proofs.Sizes.{Sized, window-nonempty, window-pointer, window-offset, window-kept}
-use Rattle.deed.specs.Motion.{mayMove, stride, moves, pointerTo, motionWith}
+use Rattle.acts.specs.Motion.{mayMove, stride, moves, pointerTo, motionWith}
 
 -- "Single: the pointer stays."
 pub single-stays : (scheme : Scheme) (valid overwrite : Bool) (k : ℕ) → scheme ≡ Single → moves scheme valid overwrite k ≡ false

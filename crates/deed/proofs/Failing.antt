@@ -8,11 +8,11 @@ use Rattle.words.specs.declared.settings.Settings.{Settings}
 use Rattle.words.specs.Command.{transmits, wordCount}
 use Rattle.records.specs.declared.value.Record.{Record}
 use Rattle.records.specs.Transfer.{transferFails}
-use Rattle.records.specs.Fault.{expectedWords, faultsFor}
-use Rattle.records.proofs.Failing.{fails-at-fault}
+use Rattle.faults.specs.Fault.{expectedWords, faultsFor}
+use Rattle.faults.proofs.Failing.{fails-at-fault}
 use Rattle.arrival.specs.declared.target.Target.{Target}
-use Rattle.deed.specs.Act.{withheld, wordsStored, wordsSent, actWith, actOf}
-use Rattle.deed.specs.Motion.{mayMove, moves, motionWith, motionOf}
+use Rattle.acts.specs.Act.{withheld, wordsStored, wordsSent, actWith, actOf}
+use Rattle.acts.specs.Motion.{mayMove, moves, motionWith, motionOf}
 
 pub fails-invalid : (s : Settings) (t : Target) (v : Record) → transferFails v ≡ true → actOf s t v .valid ≡ false
 unfolding actOf actWith faultsFor

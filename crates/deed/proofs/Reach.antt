@@ -10,7 +10,7 @@ use Rattle.words.specs.Command.{transmits, wordCount}
 use Rattle.words.proofs.Basics.{yes-or-no}
 use Rattle.words.proofs.Commands.{word-count-to}
 use Rattle.arrival.specs.declared.target.Target.{Target}
-use Rattle.deed.specs.Act.{withheld, wordsStored, actWith, actOf}
+use Rattle.acts.specs.Act.{withheld, wordsStored, actWith, actOf}
 use Rattle.deed.specs.Deed.{deedWith, deedOf}
 
 stored-fits : (s : Settings) (t : Target) (v : Record) → wordsStored s t v ≤ 32

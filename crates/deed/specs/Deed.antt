@@ -5,12 +5,12 @@ use Rattle.records.specs.Value.{onBusB}
 use Rattle.records.specs.Transfer.{isTransfer}
 use Rattle.words.specs.declared.settings.Settings.{Settings}
 use Rattle.arrival.specs.declared.target.Target.{Target}
-use Rattle.deed.specs.declared.act.Act.{Act}
-use Rattle.deed.specs.declared.motion.Motion.{Motion}
+use Rattle.acts.specs.declared.act.Act.{Act}
+use Rattle.acts.specs.declared.motion.Motion.{Motion}
 use Rattle.deed.specs.declared.deed.Signals.{Signals}
 use Rattle.deed.specs.declared.deed.Deed.{Deed}
-use Rattle.deed.specs.Act.{actOf}
-use Rattle.deed.specs.Motion.{motionOf}
+use Rattle.acts.specs.Act.{actOf}
+use Rattle.acts.specs.Motion.{motionOf}
 use Rattle.deed.specs.Report.{blockStatus, statusWord}
 
 -- what the interrupt word tells of the message: "14 illegal; 10 rollover with the cell's circular bit; .. 4 any fault;

@@ -1,4 +1,2 @@
-pub mod Act
-pub mod Motion
 pub mod Report
 pub mod Deed

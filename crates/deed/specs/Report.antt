@@ -4,8 +4,8 @@ use mathlib.Core.Bool.{Bool, true, false, not, _||_}
 use mathlib.Core.List.{[], _∷_}
 use Rattle.words.specs.declared.settings.Settings.{Settings}
 use Rattle.words.specs.Bits.{wordOf}
-use Rattle.records.specs.declared.fault.Faults.{Faults}
-use Rattle.records.specs.Fault.{anyFault}
+use Rattle.faults.specs.declared.fault.Faults.{Faults}
+use Rattle.faults.specs.Fault.{anyFault}
 use Rattle.arrival.specs.declared.target.Target.{Target}
 
 -- "15 set; 13 bus B; 12 and 10 any fault; 7 rollover; 6 illegal; 5 count; 4 sync; 3 invalid word; 0 contents. Others

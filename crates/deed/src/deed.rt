@@ -1,17 +1,17 @@
 // The deed of an accepted message: what it does in its cell, and what it reports but for the stack.
 ghost use mathlib.Core.Path.{_≡_};
 ghost use Rattle.deed.specs.Deed.{signalsOf, deedWith, deedOf};
-use crate::act::Act;
-use crate::act::act_of;
-use crate::act::act_with;
-use crate::motion::Motion;
-use crate::motion::motion_of;
 use crate::report::block_status;
 use crate::report::status_word;
+use acts::act::Act;
+use acts::act::act_of;
+use acts::act::act_with;
+use acts::motion::Motion;
+use acts::motion::motion_of;
 use arrival::target::Target;
-use records::fault::any_fault;
-use records::fault::quiet_faults;
-use records::fault::told_fault;
+use faults::fault::any_fault;
+use faults::fault::quiet_faults;
+use faults::fault::told_fault;
 use records::transfer::is_transfer;
 use records::value::Record;
 use records::value::bus_b;

@@ -2,8 +2,8 @@
 ghost use mathlib.Core.Path.{_≡_};
 ghost use Rattle.deed.specs.Report.{blockStatus, statusBits, statusWord};
 use arrival::target::Target;
-use records::fault::Faults;
-use records::fault::any_fault;
+use faults::fault::Faults;
+use faults::fault::any_fault;
 use words::bits::word_of;
 use words::choose::either;
 use words::choose::no;

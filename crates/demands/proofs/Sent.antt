@@ -11,10 +11,10 @@ use Rattle.words.specs.Bits.{bitOf}
 use Rattle.words.specs.Command.{transmits, wordCount}
 use Rattle.words.proofs.Basics.{yes-or-no}
 use Rattle.records.specs.declared.value.Record.{Record}
-use Rattle.records.specs.Fault.{anyFault, faultsFor, faultsOf}
+use Rattle.faults.specs.Fault.{anyFault, faultsFor, faultsOf}
 use Rattle.windows.specs.Window.{placeOf}
 use Rattle.arrival.specs.declared.target.Target.{Target}
-use Rattle.deed.specs.Act.{wordsSent, actWith, actOf}
+use Rattle.acts.specs.Act.{wordsSent, actWith, actOf}
 use Rattle.deed.specs.Deed.{deedWith, deedOf}
 use Rattle.carry.specs.Reply.{replyWrites, replyWords}
 use Rattle.carry.proofs.Replied.{length-writes}

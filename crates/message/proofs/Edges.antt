@@ -8,7 +8,7 @@ use Rattle.words.specs.Fill.{fillFrom}
 use Rattle.words.specs.Refusal.{firstOf}
 use Rattle.records.specs.Transfer.{transferFails, breaksTransfer}
 use Rattle.records.specs.Value.{lastsZero, keepsLayout}
-use Rattle.records.specs.Fault.{expectedWords, faultsOf, faultsFor, anyFault}
+use Rattle.faults.specs.Fault.{expectedWords, faultsOf, faultsFor, anyFault}
 use Rattle.memory.specs.Map.{ramRefused, stackPointerPlace, lookupTable, busyPlace, isBusyAt, illegalPlace, isIllegalAt}
 use Rattle.memory.specs.Kind.{cellNumber, kindOf}
 use Rattle.memory.specs.Writes.{applyWrites, writesTo}
@@ -16,8 +16,8 @@ use Rattle.windows.specs.Window.{runFrom, aligned, placeOf, rollsOver, meets, m
 use Rattle.cells.specs.Cell.{controlPart, pickScheme, schemeOf, cellAt, windowOf, doubleFits, soundCell}
 use Rattle.cells.specs.Stack.{stackPointer, stackWindow, stackSound}
 use Rattle.arrival.specs.Target.{cellFor, isIllegal, isBusy, targetOf}
-use Rattle.deed.specs.Act.{withheld, wordsStored, wordsSent, actWith, actOf}
-use Rattle.deed.specs.Motion.{mayMove, stride, moves, motionWith, motionOf}
+use Rattle.acts.specs.Act.{withheld, wordsStored, wordsSent, actWith, actOf}
+use Rattle.acts.specs.Motion.{mayMove, stride, moves, motionWith, motionOf}
 use Rattle.deed.specs.Report.{blockStatus, statusBits, statusWord}
 use Rattle.deed.specs.Deed.{signalsOf, deedWith, deedOf}
 use Rattle.decide.specs.Entry.{entryOf}

@@ -26,8 +26,8 @@ use Rattle.area.proofs.Listed.{read-listed}
 use Rattle.memory.proofs.Places.{lookup-between, control-between, stack-pointer-between, busy-between, illegal-between, lookup-differs, lookup-not-control, lookup-not-stack-pointer, control-not-stack-pointer}
 use Rattle.area.proofs.Whole.{AreaFine, SoundAt}
 use Rattle.arrival.specs.Target.{cellFor, targetOf}
-use Rattle.deed.specs.Act.{actOf}
-use Rattle.deed.specs.Motion.{motionOf, moves}
+use Rattle.acts.specs.Act.{actOf}
+use Rattle.acts.specs.Motion.{motionOf, moves}
 use Rattle.deed.specs.Deed.{deedWith, deedOf}
 use Rattle.message.proofs.Sure.{Sure}
 use Rattle.deed.proofs.Contained.{single-stays, Contained, motion-contained}

@@ -25,8 +25,8 @@ use Rattle.memory.proofs.Numbers.{number-below}
 use Rattle.memory.proofs.Places.{lookup-between, stack-pointer-between, lookup-not-stack-pointer, ordinary-not-lookup, ordinary-not-stack-pointer}
 use Rattle.deed.specs.declared.deed.Deed.{Deed}
 use Rattle.arrival.specs.Target.{cellFor, targetOf}
-use Rattle.deed.specs.Act.{wordsStored, actWith, actOf}
-use Rattle.deed.specs.Motion.{motionWith, motionOf}
+use Rattle.acts.specs.Act.{wordsStored, actWith, actOf}
+use Rattle.acts.specs.Motion.{motionWith, motionOf}
 use Rattle.words.specs.declared.remembered.Remembered.{Remembered}
 use Rattle.decide.specs.declared.plan.Plan.{Plan}
 use Rattle.decide.specs.Plan.{planWith, planOf}

@@ -16,7 +16,7 @@ use Rattle.memory.specs.Map.{illegalPlace, busyPlace}
 use Rattle.memory.specs.State.{State, stateOf}
 use Rattle.decide.specs.declared.plan.Plan.{Plan}
 use Rattle.message.specs.declared.answer.Answer.{Answer}
-use Rattle.records.specs.Fault.{expectedWords}
+use Rattle.faults.specs.Fault.{expectedWords}
 use Rattle.carry.specs.Writes.{writesOf}
 use Rattle.memory.specs.Writes.{Write, applyWrites, writesTo}
 use Rattle.carry.specs.Reply.{replyWords}

@@ -9,8 +9,7 @@ use borrow.Author.Tests.{eqb-false, ne-eqb, leb-true, le-leb, not-true}
 use Rattle.words.proofs.Basics.{and-left, and-right, or-left, or-right}
 use Rattle.records.specs.declared.value.Record.{Record}
 use Rattle.records.specs.Transfer.{isTransfer, hasNoStatus, hasWrongGap, hasBadSecond, transferFails, breaksTransfer}
-use Rattle.records.specs.Value.{hasWrongSync, hasInvalidWord, lastsZero, keepsLayout}
-use Rattle.records.specs.Fault.{faultsOf}
+use Rattle.records.specs.Value.{lastsZero, keepsLayout}
 use Rattle.records.proofs.Rules.{kept-of}
 
 -- "(1 = bus B, 2 = wrong sync, 4 = invalid word; higher bits zero)"
@@ -76,20 +75,9 @@ layout-before v h z =
     let p = plain v h in
     simp (le-leb (v .flags) 127 (omega arith), le-leb (v .flags) 7 h, p .transfer, p .status, p .gap, p .second, z, and-true)
 
--- "Sync fault and invalid word come from the flags. Count fault: count differs from expected and neither flag is set."
-pub faults-before :
-    (expected : ℕ) (contents : Bool) (v : Record) → v .flags ≤ 7 →
-    faultsOf expected contents v
-    ≡ record {
-      sync = hasWrongSync v;
-      invalid = hasInvalidWord v;
-      count = not (eqb (v .count) expected) && not (hasWrongSync v || hasInvalidWord v);
-      contents = contents;
-      «no_status» = false;
-      gap = false;
-      second = false;
-    }
-unfolding faultsOf transferFails
-faults-before expected contents v h =
+-- what is then left of the rules of transfers: "bytes 2-3 are set without flag 8"
+pub unmarked : (v : Record) → v .flags ≤ 7 → breaksTransfer v ≡ not (eqb (v .«transmit_command») 0)
+unfolding breaksTransfer transferFails
+unmarked v h =
     let p = plain v h in
-    simp (p .status, p .gap, p .second, or-false)
+    simp (p .transfer, p .status, p .gap, p .second, or-false)

@@ -1,6 +1,4 @@
 pub mod Turns
 pub mod Rules
 pub mod Before
-pub mod Failing
-pub mod Quiet
 pub mod Determined

@@ -31,7 +31,7 @@ pub fn bad_second(v: Record) -> bool
     v.flags / 64 % 2 == 1
 }
 
-pub(crate) fn transfer_fails(v: Record) -> bool
+pub fn transfer_fails(v: Record) -> bool
     ensures { λ r. ⌜ r ≡ transferFails v ⌝ }
 {
     either(no_status(v), either(wrong_gap(v), bad_second(v)))

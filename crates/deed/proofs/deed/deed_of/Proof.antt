@@ -1,8 +1,8 @@
 -- `deed_of` meets its contract: act, motion, and the parts made of them, where no flag tells a fault and where one does.
 use borrow.Author.Needs.{needs}
 use mathlib.Core.Path.{_≡_}
-use Rattle.records.proofs.Quiet.{quiet-faults}
-use Rattle.deed.specs.Act.{actOf}
+use Rattle.faults.proofs.Quiet.{quiet-faults}
+use Rattle.acts.specs.Act.{actOf}
 use Rattle.deed.specs.Deed.{deedOf}
 use Rattle.deed.proofs.deed.deed_of.Statement.{statement}
 use Rattle.deed.proofs.deed.deed_of.Tie as tie

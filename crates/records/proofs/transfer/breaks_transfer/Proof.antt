@@ -1,7 +1,8 @@
 -- `breaks_transfer` meets its contract: the same three rules, or the one that is left without a flag of a transfer.
 use borrow.Author.Needs.{needs}
 use Rattle.records.specs.Transfer.{breaksTransfer}
-use Rattle.records.proofs.Quiet.{no-transfer}
+use native.Mathlib.Omega.{arith}
+use Rattle.records.proofs.Before.{unmarked}
 use Rattle.records.proofs.transfer.breaks_transfer.Statement.{statement}
 use Rattle.records.proofs.transfer.breaks_transfer.Tie as tie
 
@@ -9,7 +10,7 @@ no-requires : tie.Need-no-requires
 no-requires c κs = search needs
 
 returns : tie.Need-returns
-returns c = let begun = c .before .before in rw (c .no .ensures, no-transfer (begun .before .before .args .v) (begun .if1 .taken))
+returns c = let begun = c .before .before in rw (c .no .ensures, unmarked (begun .before .before .args .v) (omega (arith, begun .if1 .taken)))
 
 is-transfer-requires : tie.Need-is-transfer-requires
 is-transfer-requires c κs = search needs

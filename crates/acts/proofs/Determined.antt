@@ -1,0 +1,15 @@
+-- The inputs determine the answer: for each public function, any two results that its contract allows are equal.
+-- Each line speaks of the contract as the checker reads it (`Reads.Post`), so that none can drift from its function.
+use mathlib.Core.Path.{refl}
+use Rattle.words.proofs.Settled.{determined, Settled}
+use Rattle.acts.proofs.act
+use Rattle.acts.proofs.motion
+
+pub act-of-settled : Settled 0 act.act_of.Kinds.ps act.act_of.Kinds.r act.act_of.Reads.Post
+act-of-settled κs a x y v w p q = (determined p q, refl)
+
+pub act-with-settled : Settled 0 act.act_with.Kinds.ps act.act_with.Kinds.r act.act_with.Reads.Post
+act-with-settled κs a x y v w p q = (determined p q, refl)
+
+pub motion-of-settled : Settled 0 motion.motion_of.Kinds.ps motion.motion_of.Kinds.r motion.motion_of.Reads.Post
+motion-of-settled κs a x y v w p q = (determined p q, refl)

@@ -1,0 +1,32 @@
+-- `act_of` meets its contract: the faults, and what follows of them.
+use borrow.Author.Needs.{needs}
+use Rattle.acts.specs.Act.{actOf}
+use Rattle.acts.proofs.act.act_of.Statement.{statement}
+use Rattle.acts.proofs.act.act_of.Tie as tie
+
+faults-for-requires : tie.Need-faults-for-requires
+faults-for-requires c κs = search needs
+
+any-fault-requires : tie.Need-any-fault-requires
+any-fault-requires c κs = search needs
+
+no-requires : tie.Need-no-requires
+no-requires c κs = search needs
+
+act-with-requires : tie.Need-act-with-requires
+act-with-requires c κs = search needs
+
+returns : tie.Need-returns
+unfolding actOf
+returns c =
+    rw (
+      c .act-with .ensures,
+      c .before .no .ensures,
+      c .before .before .any-fault .ensures,
+      c .before .before .before .faults-for .ensures,
+    )
+
+pub act-of-spec : {M : Type 1} → statement M
+act-of-spec =
+    tie.close
+    (tie.spec faults-for-requires any-fault-requires no-requires act-with-requires returns)

@@ -1,0 +1,4 @@
+pub mod Before
+pub mod Failing
+pub mod Quiet
+pub mod Determined
