@@ -1,5 +1,4 @@
--- What a record meant before there were transfers: the records that are no transfers are those that document 01 takes,
--- and they have document 01's four faults.
+-- What a record meant before there were transfers: the records that are no transfers are those that document 01 takes.
 use Prim.Native.Nat.{ℕ, _/_, _%_, _≤_}
 use native.Mathlib.Omega.{arith}
 use mathlib.Core.Path.{_≡_}
