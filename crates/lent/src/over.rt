@@ -20,7 +20,10 @@ pub fn put_four(xs: &mut [u16], at: u16, a: u16, b: u16, c: u16, d: u16)
     put(xs, first, a);
 }
 
-fn put_words_below(xs: &mut [u16], words: [u16; 32], room: usize)
+// The words of a record value.
+pub type Words = [u16; 32];
+
+fn put_words_below(xs: &mut [u16], words: Words, room: usize)
     requires { ⌜ room ≡ min (length (now xs)) 36 ⌝ }
     ensures { λ r. ⌜ now (xs .exit) ≡ sets (now (xs .entry)) 4 words ⌝ }
 {
@@ -33,7 +36,7 @@ fn put_words_below(xs: &mut [u16], words: [u16; 32], room: usize)
 
 // The thirty-two words of a value, from place 4 on. Where there is room for all, the compiler sees a copy of fixed
 // length.
-pub fn put_words(xs: &mut [u16], words: [u16; 32])
+pub fn put_words(xs: &mut [u16], words: Words)
     ensures { λ r. ⌜ now (xs .exit) ≡ sets (now (xs .entry)) 4 words ⌝ }
 {
     if 36 <= xs.len() {

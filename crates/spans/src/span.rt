@@ -56,6 +56,9 @@ pub fn spans_meet(v: Span, w: Span) -> bool
     both(v.start < w.end, w.start < v.end)
 }
 
+// A number for each cell, at the cell's number.
+pub type Places = [u32; 96];
+
 // The spans of the cells of one kind, at their numbers. Kind by kind, so that the compiler decides by the kind once for
 // them all.
 fn read_kind(
@@ -63,8 +66,8 @@ fn read_kind(
     s: Settings,
     stack: Window,
     kind: Kind,
-    starts: &mut [u32; 96],
-    ends: &mut [u32; 96],
+    starts: &mut Places,
+    ends: &mut Places,
 )
     ensures starts { λ r. ⌜ now (starts .exit) ≡ fillFrom (cellNumber kind 0) (λ sub. spanOf (now (ram .entry)) s stack (cellNumber kind 0 + sub) .start) (now (starts .entry)) 32 ⌝ }
     ensures ends { λ r. ⌜ now (ends .exit) ≡ fillFrom (cellNumber kind 0) (λ sub. spanOf (now (ram .entry)) s stack (cellNumber kind 0 + sub) .end) (now (ends .entry)) 32 ⌝ }
@@ -80,7 +83,7 @@ fn read_kind(
 }
 
 // The span of each cell, at its number.
-pub fn read_spans(ram: &[u16], s: Settings, starts: &mut [u32; 96], ends: &mut [u32; 96])
+pub fn read_spans(ram: &[u16], s: Settings, starts: &mut Places, ends: &mut Places)
     ensures starts { λ r. ⌜ now (starts .exit) ≡ startsInto (now (ram .entry)) s (now (starts .entry)) ⌝ }
     ensures ends { λ r. ⌜ now (ends .exit) ≡ endsInto (now (ram .entry)) s (now (ends .entry)) ⌝ }
 {
