@@ -30,12 +30,13 @@ use Rattle.carry.specs.Writes.{writesOf}
 use Rattle.carry.specs.Reply.{replyWrites}
 use Rattle.message.specs.declared.perform.Performed.{Performed}
 use Rattle.message.specs.declared.perform.Performed.the-variants.{Refused, Done}
-use Rattle.message.specs.Tests.{cellUnsound, earlyTests, addressTests, commandTests}
+use Rattle.message.specs.Tests.{cellUnsound, earlyTests, recordTests, addressTests, commandTests, refusalFor}
 use Rattle.message.specs.declared.answer.Outcome.{Outcome}
-use Rattle.message.specs.Answer.{refusedWith, acceptedWith, answerFor}
-use Rattle.message.specs.Message.{rememberedWith, carriedOut, stateFor}
-use Rattle.message.specs.Performed.{performTests, performedWith}
-use Rattle.message.proofs.InTurn.{ram-passed}
+use Rattle.message.specs.Heard.{Heard}
+use Rattle.message.specs.Message.{rememberedWith, carriedOut, stateFor, answerOf, step}
+use Rattle.message.specs.Performed.{performTests, performedWith, performedOf, answerIn, rememberedIn}
+use Rattle.message.proofs.Refusals.{refused-answer, refused-state, accepted-answer, accepted-state}
+use Rattle.message.proofs.InTurn.{ram-passed, passes-record}
 
 -- ---- what was performed tells the number
 
@@ -43,12 +44,13 @@ pub record RefusedBy (number n : ℕ) : Type 0 where
   pub same : n ≡ number
   pub some : number ≡ 0 → ⊥
 
-pub record DoneBy (number : ℕ) (q p : Plan) : Type 0 where
+pub record DoneBy (number : ℕ) (q p : Plan) (after m : Remembered) : Type 0 where
   pub none : number ≡ 0
   pub plan : p ≡ q
+  pub remembered : m ≡ after
 
-module _ (number : ℕ) (q : Plan) where
-  pub performed-refused : (n : ℕ) → Refused n ≡ performedWith number q → RefusedBy number n
+module _ (number : ℕ) (q : Plan) (after : Remembered) where
+  pub performed-refused : (n : ℕ) → Refused n ≡ performedWith number q after → RefusedBy number n
   unfolding performedWith
   performed-refused n e =
       ⊎-elim
@@ -61,15 +63,16 @@ module _ (number : ℕ) (q : Plan) where
       record { same = cc; some = m })
       (eq-or-ne number 0)
 
-  pub performed-done : (p : Plan) → Done p ≡ performedWith number q → DoneBy number q p
+  pub performed-done :
+      (p : Plan) (m : Remembered) → Done p m ≡ performedWith number q after → DoneBy number q p after m
   unfolding performedWith
-  performed-done p e =
+  performed-done p m e =
       ⊎-elim
       (λ (z : number ≡ 0).
       let f = rw (eq-eqb number 0 z) at e in
-      record { none = z; plan = cc })
-      (λ (m : number ≡ 0 → ⊥).
-      let f = rw (ne-eqb number 0 m) at e in
+      record { none = z; plan = cc; remembered = cc })
+      (λ (some : number ≡ 0 → ⊥).
+      let f = rw (ne-eqb number 0 some) at e in
       let one : _≡_ {A = ℕ} 0 1 = cc in
       absurd (omega arith))
       (eq-or-ne number 0)
@@ -87,7 +90,8 @@ module _ (s : Settings) (before : Remembered) (v : Record) (ram reply : List ℕ
   after = stateFor number s plan v (stateOf ram reply before)
 
   abbrev Leaves : Performed → List ℕ → List ℕ → Type 0
-  Leaves r m l = (r ≡ performedWith number plan) × ((m ≡ after .ram) × (l ≡ after .reply))
+  Leaves r m l =
+      (r ≡ performedWith number plan (rememberedWith plan v)) × ((m ≡ after .ram) × (l ≡ after .reply))
 
   refused : (n : ℕ) → n ≡ number → (n ≡ 0 → ⊥) → Leaves (Refused n) ram reply
   unfolding performedWith stateFor
@@ -115,8 +119,8 @@ module _ (s : Settings) (before : Remembered) (v : Record) (ram reply : List ℕ
         n ≡ 0 → (p : Plan) (l m : List ℕ) → p ≡ plan →
         l ≡ applyWrites (replyWrites ram (p .deed)) reply →
         m ≡ applyWrites (writesOf s p v) ram →
-        Leaves (Done p) m l
-    unfolding performedWith stateFor carriedOut
+        Leaves (Done p (record { command = v .command; status = p .deed .status })) m l
+    unfolding performedWith stateFor carriedOut rememberedWith
     is-performed z p l m planned sent carried =
         let k = eq-eqb number 0 (passes ∙ z) in
         (rw (k, planned), (rw (k, carried, planned), rw (k, sent, planned)))
@@ -183,44 +187,55 @@ command-number ram room s command early =
     (λ (n : ramRefused (length ram) ≡ false). rw n)
     (yes-or-no (ramRefused (length ram)))
 
--- ---- what is answered and left, after the early tests
+-- ---- what was heard
 
-module _
-    (s : Settings)
-    (before : Remembered)
-    (v : Record)
-    (ram reply : List ℕ)
-    (early : firstOf (earlyTests (length ram) (length reply) s) ≡ 0)
-    (r : Performed)
-    (m l : List ℕ)
-    (e : Leaves s before v ram reply r m l)
-    (o : Outcome)
-  where
-    abbrev late : ℕ
-    late = firstOf (commandTests ram s (v .command))
+module _ (s : Settings) (h : Heard) (before : Remembered) (ram reply : List ℕ) where
+  abbrev x : State
+  x = stateOf ram reply before
 
-    same : number s before v ram reply ≡ late
-    same = command-number ram (length reply) s (v .command) early
+  abbrev Heeds : Performed → List ℕ → List ℕ → Type 0
+  Heeds r m l = (r ≡ performedOf s h x) × ((m ≡ step s h x .ram) × (l ≡ step s h x .reply))
 
-    abbrev Serves : Type 0
-    Serves =
-        (o .answer ≡ answerFor late (plan s before v ram reply))
-        × (stateOf m l (o .remembered) ≡ stateFor late s (plan s before v ram reply) v (stateOf ram reply before))
+  -- where the code stops with a number that the tests give
+  pub heard-refused : (n : ℕ) → refusalFor s h x ≡ n → (n ≡ 0 → ⊥) → Heeds (Refused n) ram reply
+  unfolding performedOf performedWith
+  heard-refused n e m =
+      let some : refusalFor s h x ≡ 0 → ⊥ = λ z. m (sym e ∙ z) in
+      let kept = refused-state s h x some in
+      (rw (ne-eqb (refusalFor s h x) 0 some, e), (rw kept, rw kept))
 
-    pub serves-refused :
-        (n : ℕ) → r ≡ Refused n → o ≡ record { answer = refusedWith n; remembered = before } → Serves
-    unfolding answerFor stateFor
-    serves-refused n told made =
-        let k = performed-refused (number s before v ram reply) (plan s before v ram reply) n (sym told ∙ e .0) in
-        let f = ne-eqb (number s before v ram reply) 0 (k .some) in
-        let g = ne-eqb late 0 (λ z. k .some (same ∙ z)) in
-        (rw (made, g, k .same, same), rw (made, g, e .1 .0, e .1 .1, f))
+  -- and where a record in order is performed
+  pub heard-performed :
+      firstOf (earlyTests (length ram) (length reply) s) ≡ 0 → firstOf (recordTests h) ≡ 0 →
+      (v : Record) → v ≡ h .value → (r : Performed) (m l : List ℕ) → Leaves s before v ram reply r m l → Heeds r m l
+  unfolding performedOf step
+  heard-performed passed kept v same r m l e =
+      let number = passes-record s h x passed kept in
+      let late = command-number ram (length reply) s (h .value .command) passed in
+      let f = rw (same, late, ← number) at e in
+      f
 
-    pub serves-done :
-        (p : Plan) → r ≡ Done p → o ≡ record { answer = acceptedWith p; remembered = rememberedWith p v } → Serves
-    unfolding answerFor stateFor carriedOut
-    serves-done p told made =
-        let k = performed-done (number s before v ram reply) (plan s before v ram reply) p (sym told ∙ e .0) in
-        let f = eq-eqb (number s before v ram reply) 0 (k .none) in
-        let g = eq-eqb late 0 (sym same ∙ k .none) in
-        (rw (made, g, k .plan), rw (made, g, e .1 .0, e .1 .1, f, k .plan))
+  -- what was performed tells the answer, and what is remembered
+  answer-told : answerIn (performedOf s h x) ≡ answerOf s h x
+  unfolding performedOf performedWith answerIn
+  answer-told =
+      ⊎-elim
+      (λ (z : refusalFor s h x ≡ 0). rw (eq-eqb (refusalFor s h x) 0 z) (sym (accepted-answer s h x z)))
+      (λ (m : refusalFor s h x ≡ 0 → ⊥). rw (ne-eqb (refusalFor s h x) 0 m) (sym (refused-answer s h x m)))
+      (eq-or-ne (refusalFor s h x) 0)
+
+  remembered-told : rememberedIn before (performedOf s h x) ≡ step s h x .remembered
+  unfolding performedOf performedWith rememberedIn carriedOut
+  remembered-told =
+      ⊎-elim
+      (λ (z : refusalFor s h x ≡ 0). rw (eq-eqb (refusalFor s h x) 0 z, accepted-state s h x z))
+      (λ (m : refusalFor s h x ≡ 0 → ⊥). rw (ne-eqb (refusalFor s h x) 0 m, refused-state s h x m))
+      (eq-or-ne (refusalFor s h x) 0)
+
+  -- so what is told of it is what the definitions say
+  pub told :
+      (r : Performed) (m l : List ℕ) → Heeds r m l → (o : Outcome) →
+      o ≡ record { answer = answerIn r; remembered = rememberedIn before r } →
+      (o .answer ≡ answerOf s h x) × (stateOf m l (o .remembered) ≡ step s h x)
+  told r m l e o made =
+      (rw (made, e .0) answer-told, rw (made, e .0, e .1 .0, e .1 .1, remembered-told))

@@ -38,7 +38,7 @@ pub(crate) fn refused_with(number: u16) -> Answer
     }
 }
 
-pub(crate) fn accepted_with(p: Plan) -> Answer
+pub fn accepted_with(p: Plan) -> Answer
     ensures { λ r. ⌜ r ≡ acceptedWith p ⌝ }
 {
     let deed = p.deed;

@@ -4,7 +4,7 @@ ghost use mathlib.Core.Path.{_≡_};
 ghost use Rattle.words.specs.Refusal.{firstOf};
 ghost use Rattle.memory.specs.State.{stateOf};
 ghost use Rattle.decide.specs.Plan.{planOf};
-ghost use Rattle.message.specs.Message.{stateFor};
+ghost use Rattle.message.specs.Message.{rememberedWith, stateFor};
 ghost use Rattle.message.specs.Performed.{performTests, performedWith};
 use crate::tests::address_refusal;
 use arrival::target::cell_for;
@@ -27,10 +27,10 @@ use words::number::UNSOUND_STACK;
 use words::remembered::Remembered;
 use words::settings::Settings;
 
-// Refused with a number, or done by a plan.
+// Refused with a number, or done by a plan, with what is remembered after it.
 pub enum Performed {
     Refused(u16),
-    Done(Plan),
+    Done(Plan, Remembered),
 }
 
 // Stack, cell and window are worked out once, by the tests, and handed on to the plan. The test of RAM's length also
@@ -42,7 +42,7 @@ pub fn perform(
     before: Remembered,
     v: Record,
 ) -> Performed
-    ensures performed { λ r. ⌜ r ≡ performedWith (firstOf (performTests (now (ram .entry)) s (v .command))) (planOf s (now (ram .entry)) before v) ⌝ }
+    ensures performed { λ r. ⌜ r ≡ performedWith (firstOf (performTests (now (ram .entry)) s (v .command))) (planOf s (now (ram .entry)) before v) (rememberedWith (planOf s (now (ram .entry)) before v) v) ⌝ }
     ensures ram { λ r. ⌜ now (ram .exit) ≡ stateFor (firstOf (performTests (now (ram .entry)) s (v .command))) s (planOf s (now (ram .entry)) before v) v (stateOf (now (ram .entry)) (now (reply .entry)) before) .ram ⌝ }
     ensures reply { λ r. ⌜ now (reply .exit) ≡ stateFor (firstOf (performTests (now (ram .entry)) s (v .command))) s (planOf s (now (ram .entry)) before v) v (stateOf (now (ram .entry)) (now (reply .entry)) before) .reply ⌝ }
 {
@@ -69,5 +69,9 @@ pub fn perform(
     let deed = plan.deed;
     send(ram, reply, deed);
     carry_out(ram, s, plan, v);
-    Performed::Done(plan)
+    let remembered = Remembered {
+        command: v.command,
+        status: deed.status,
+    };
+    Performed::Done(plan, remembered)
 }

@@ -1,37 +1,13 @@
--- Where RAM and settings are not refused, no record is refused for RAM, room or settings.
+-- The tests of the question about one address: those of a replay, and one more.
 use Prim.Native.Nat.{ℕ}
 use mathlib.Core.Path.{_≡_, refl, sym, _∙_}
 use mathlib.Core.List.{List, [], _∷_}
-use lib.ListN.{length}
 use lib.Dec.{leb}
 use Rattle.words.specs.declared.settings.Settings.{Settings}
-use Rattle.words.specs.declared.remembered.Remembered.{Remembered}
 use Rattle.words.specs.Number.{ramLength, badSettings, addressBeyond}
 use Rattle.words.specs.Refusal.{_when_, firstOf}
 use Rattle.words.proofs.Refusals.{accepted, first-stops, first-passes}
-use Rattle.message.specs.Heard.{Heard}
-use Rattle.message.specs.Tests.{earlyTests, testsFor, refusalFor}
 use Rattle.who.specs.Tests.{replayTests, replayRefusal, whoTests, whoRefusal}
-use Rattle.who.specs.Replay.{terminalOf}
-
-pub replay-early :
-    (words : ℕ) (s : Settings) (n : ℕ) → n ≡ replayRefusal words s → n ≡ 0 → firstOf (earlyTests words 33 s) ≡ 0
-unfolding replayRefusal firstOf
-replay-early words s n e z =
-    let t = accepted (replayTests words s) refl (sym e ∙ z) in
-    rw (t ramLength, t badSettings)
-
--- and where they are refused, so is every record
-pub replay-late :
-    (ram : List ℕ) (s : Settings) (h : Heard) (before : Remembered) (n : ℕ) →
-    n ≡ replayRefusal (length ram) s →
-    (n ≡ 0 → ⊥) →
-    refusalFor s h (terminalOf ram before) ≡ 0 →
-    ⊥
-unfolding replayRefusal refusalFor firstOf
-replay-late ram s h before n e m z =
-    let t = accepted (testsFor s h (terminalOf ram before)) refl z in
-    m (e ∙ rw (t ramLength, t badSettings))
 
 -- the question's tests are those and one more
 pub asked-replay : (words : ℕ) (s : Settings) (a : ℕ) → whoRefusal words s a ≡ 0 → replayRefusal words s ≡ 0

@@ -1,28 +1,47 @@
--- `take_record` meets its contract: refused with RAM or settings, or taken as tested.
+-- `take_record` meets its contract: as it was performed.
 use borrow.Author.Needs.{needs}
-use Rattle.who.proofs.Early.{replay-early, replay-late}
-use Rattle.replay.proofs.Taking.{refused}
+use Rattle.replay.proofs.Taking.{not-performed, is-performed}
 use Rattle.replay.proofs.taken.take_record.Statement.{statement}
 use Rattle.replay.proofs.taken.take_record.Tie as tie
 
-replay-refusal-requires : tie.Need-replay-refusal-requires
-replay-refusal-requires c κs = search needs
+slice-aggregate-perform-bytes : tie.Need-slice-aggregate-perform-bytes
+slice-aggregate-perform-bytes c = search needs
 
-returns : tie.Need-returns
-returns c = let k = c .before in
-    let a = k .before .before .before .args in
-    refused (a .s) _ (a .before) _ (replay-late _ (a .s) _ (a .before) _ (k .replay-refusal .ensures) (c .if1 .taken))
+perform-bytes-requires : tie.Need-perform-bytes-requires
+perform-bytes-requires c κs = search needs
 
-take-tested-requires : tie.Need-take-tested-requires
-take-tested-requires c κs = let k = c .before .before in
-    replay-early _ (k .before .before .before .args .s) _ (k .replay-refusal .ensures) (c .before .if1 .left)
+enum-told : tie.Need-enum-told
+enum-told c = search needs
+
+enum-known-performed : tie.Need-enum-known-performed
+enum-known-performed c = search needs
 
 same-length : tie.Need-same-length
 same-length c = search needs
 
+returns : tie.Need-returns
+returns c =
+    let k = c .before .before .before .before .before in
+    not-performed _ _ _ _ _ (k .perform-bytes .ensures .0) (k .perform-bytes .ensures .1 .0) _ (c .enum-told .given .1)
+
+same-length-2 : tie.Need-same-length-2
+same-length-2 c = search needs
+
 returns-2 : tie.Need-returns-2
-returns-2 c = c .before .before .take-tested .ensures
+returns-2 c =
+    let told = c .before in
+    let k = told .before .before .before .before .before in
+    is-performed _ _ _ _ _ (k .perform-bytes .ensures .0) (k .perform-bytes .ensures .1 .0) _ _ (told .performed .given .1)
 
 pub take-record-spec : {M : Type 1} → statement M
 take-record-spec =
-    tie.close (tie.spec replay-refusal-requires returns take-tested-requires same-length returns-2)
+    tie.close
+    (tie.spec
+    slice-aggregate-perform-bytes
+    perform-bytes-requires
+    enum-told
+    enum-known-performed
+    same-length
+    returns
+    same-length-2
+    returns-2)
