@@ -15,7 +15,6 @@ use windows::window::meets_fixed;
 use windows::window::run_from;
 use windows::window::windows_meet;
 use words::choose::both;
-use words::choose::either;
 use words::choose::no;
 use words::settings::Area;
 
@@ -136,10 +135,17 @@ fn double_fits(scheme: Scheme, pointer: u16) -> bool
 pub fn sound_within(words: usize, stack: Window, c: Cell, w: Window) -> bool
     ensures { λ r. ⌜ r ≡ soundWithin words stack c w ⌝ }
 {
+    if no(fits_below(w, words)) {
+        return false;
+    }
+    if meets_fixed(w) {
+        return false;
+    }
+    if windows_meet(w, stack) {
+        return false;
+    }
     let scheme = c.scheme;
-    let inside = both((c.pointer as usize) < words, fits_below(w, words));
-    let apart = no(either(meets_fixed(w), windows_meet(w, stack)));
-    both(both(inside, double_fits(scheme, c.pointer)), apart)
+    both((c.pointer as usize) < words, double_fits(scheme, c.pointer))
 }
 
 pub fn sound_cell(words: usize, stack: Window, c: Cell) -> bool
