@@ -17,11 +17,11 @@ use words::settings::is_own;
 
 pub struct Target {
     pub cell: Cell,
-    pub number: u16,
     pub window: Window,
     pub broadcast: bool,
     pub illegal: bool,
     pub busy: bool,
+    pub number: u16,
 }
 
 // The cell that a command uses.

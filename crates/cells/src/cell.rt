@@ -2,7 +2,7 @@
 ghost use mathlib.Core.Path.{_≡_};
 ghost use Prim.Native.Nat.{_<_};
 ghost use lib.ListN.{length};
-ghost use Rattle.cells.specs.Cell.{controlPart, sizeOf, doublesKind, pickScheme, schemeOf, cellAt, windowOf, doubleFits, soundWithin, soundCell};
+ghost use Rattle.cells.specs.Cell.{controlShift, controlPart, sizeOf, doublesKind, pickScheme, schemeOf, cellAt, windowOf, doubleFits, soundWithin, soundCell};
 use memory::kind::Kind;
 use memory::kind::cell_number;
 use memory::map::control_place;
@@ -15,7 +15,6 @@ use windows::window::meets_fixed;
 use windows::window::run_from;
 use windows::window::windows_meet;
 use words::choose::both;
-use words::choose::either;
 use words::choose::no;
 use words::settings::Area;
 
@@ -37,16 +36,22 @@ pub struct Cell {
     pub end_interrupt: bool,
 }
 
-// The five bits of a control word that belong to a kind, lowest first: size, circular interrupt, end-of-message
-// interrupt.
+// How far above bit 0 the five bits of a kind stand in a control word.
+fn shift_of(kind: Kind) -> u16
+    ensures { λ r. ⌜ r ≡ controlShift kind ⌝ }
+{
+    match kind {
+        Kind::Receive => 5,
+        Kind::Transmit => 10,
+        Kind::Broadcast => 0,
+    }
+}
+
+// The five bits of a kind, lowest first: size, circular interrupt, end-of-message interrupt.
 fn control_part(control: u16, kind: Kind) -> u16
     ensures { λ r. ⌜ r ≡ controlPart control kind ⌝ }
 {
-    match kind {
-        Kind::Receive => control / 32 % 32,
-        Kind::Transmit => control / 1024 % 32,
-        Kind::Broadcast => control % 32,
-    }
+    (control >> shift_of(kind)) % 32
 }
 
 fn size_of(m: u16) -> u16
@@ -130,10 +135,17 @@ fn double_fits(scheme: Scheme, pointer: u16) -> bool
 pub fn sound_within(words: usize, stack: Window, c: Cell, w: Window) -> bool
     ensures { λ r. ⌜ r ≡ soundWithin words stack c w ⌝ }
 {
+    if no(fits_below(w, words)) {
+        return false;
+    }
+    if meets_fixed(w) {
+        return false;
+    }
+    if windows_meet(w, stack) {
+        return false;
+    }
     let scheme = c.scheme;
-    let inside = both((c.pointer as usize) < words, fits_below(w, words));
-    let apart = no(either(meets_fixed(w), windows_meet(w, stack)));
-    both(both(inside, double_fits(scheme, c.pointer)), apart)
+    both((c.pointer as usize) < words, double_fits(scheme, c.pointer))
 }
 
 pub fn sound_cell(words: usize, stack: Window, c: Cell) -> bool

@@ -29,11 +29,13 @@ pub fn stack_window(ram: &[u16], s: Settings) -> Window
 pub fn stack_fits(words: usize, pointer: u16, block: Window) -> bool
     ensures { λ r. ⌜ r ≡ stackFits words pointer block ⌝ }
 {
-    let placed = both(pointer % 4 == 0, (pointer as usize) + 4 <= words);
-    both(
-        placed,
-        both(fits_below(block, words), no(meets_fixed(block))),
-    )
+    if no(fits_below(block, words)) {
+        return false;
+    }
+    if meets_fixed(block) {
+        return false;
+    }
+    both(pointer % 4 == 0, (pointer as usize) + 4 <= words)
 }
 
 pub fn stack_sound(ram: &[u16], s: Settings) -> bool

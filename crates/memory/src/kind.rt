@@ -1,8 +1,6 @@
 // The kind of a cell, its number, and which kind a command uses.
 ghost use mathlib.Core.Path.{_≡_};
-ghost use mathlib.Core.Bool.{cond};
 ghost use Rattle.memory.specs.Kind.{kindNumber, cellNumber, kindOf};
-use words::choose::both;
 use words::command;
 use words::settings::Settings;
 use words::settings::is_broadcast;
@@ -30,20 +28,17 @@ pub fn cell_number(kind: Kind, subaddress: u16) -> usize
     32 * (kind_number(kind) as usize) + subaddress as usize
 }
 
-fn pick_kind(b: bool, x: Kind, y: Kind) -> Kind
-    ensures { λ r. ⌜ r ≡ cond b x y ⌝ }
-{
-    if b { x } else { y }
-}
-
 // The kind of the cell that a command uses.
 pub fn kind_of(s: Settings, command: u16) -> Kind
     ensures { λ r. ⌜ r ≡ kindOf s command ⌝ }
 {
-    let separate = both(is_broadcast(s, command), s.separate_broadcast);
-    pick_kind(
-        command::transmit(command),
-        Kind::Transmit,
-        pick_kind(separate, Kind::Broadcast, Kind::Receive),
-    )
+    if command::transmit(command) {
+        return Kind::Transmit;
+    }
+    if s.separate_broadcast {
+        if is_broadcast(s, command) {
+            return Kind::Broadcast;
+        }
+    }
+    Kind::Receive
 }

@@ -1,30 +1,33 @@
--- `control_part` meets its contract: the five bits of each kind.
+-- `control_part` meets its contract: a shift is the division of each kind.
 use borrow.Author.Needs.{needs}
-use Rattle.cells.specs.Cell.{controlPart}
+use Prim.Native.Nat.{ℕ, _/_, _%_, _^_, _<_}
+use native.Mathlib.Omega.{arith}
+use mathlib.Core.Path.{_≡_}
+use Rattle.memory.specs.declared.kind.Kind.{Kind}
+use Rattle.memory.specs.declared.kind.Kind.the-variants.{Receive, Transmit, Broadcast}
+use Rattle.cells.specs.Cell.{controlShift, controlPart}
 use Rattle.cells.proofs.cell.control_part.Statement.{statement}
 use Rattle.cells.proofs.cell.control_part.Tie as tie
 
-enum-told : tie.Need-enum-told
-enum-told c = search needs
+shift-small : (kind : Kind) → controlShift kind < 16
+shift-small Receive = omega arith
+shift-small Transmit = omega arith
+shift-small Broadcast = omega arith
 
-enum-told-2 : tie.Need-enum-told-2
-enum-told-2 c = search needs
+part-shifted : (control : ℕ) (kind : Kind) → control / 2 ^ controlShift kind % 32 ≡ controlPart control kind
+unfolding controlPart
+part-shifted control Receive = omega arith
+part-shifted control Transmit = omega arith
+part-shifted control Broadcast = omega arith
 
-enum-told-3 : tie.Need-enum-told-3
-enum-told-3 c = search needs
+shift-of-requires : tie.Need-shift-of-requires
+shift-of-requires c κs = search needs
+
+shr-result : tie.Need-shr-result
+shr-result c = omega (arith, shift-small (c .before .args .kind))
 
 returns : tie.Need-returns
-unfolding controlPart
-returns c = rw (c .enum-told .given .1)
-
-returns-2 : tie.Need-returns-2
-unfolding controlPart
-returns-2 c = rw (c .enum-told2 .given .1)
-
-returns-3 : tie.Need-returns-3
-unfolding controlPart
-returns-3 c = rw (c .enum-told3 .given .1)
+returns c = rw (c .shift-of .ensures) (part-shifted (c .before .args .control) (c .before .args .kind))
 
 pub control-part-spec : {M : Type 1} → statement M
-control-part-spec =
-    tie.close (tie.spec enum-told enum-told-2 enum-told-3 returns returns-2 returns-3)
+control-part-spec = tie.close (tie.spec shift-of-requires shr-result returns)

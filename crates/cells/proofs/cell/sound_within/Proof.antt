@@ -1,64 +1,83 @@
--- `sound_within` meets its contract: the same tests.
+-- `sound_within` meets its contract: the first test that fails answers no, and past them two are left.
 use borrow.Author.Needs.{needs}
+use mathlib.Core.Path.{sym, _∙_}
+use mathlib.Core.Bool.{and-true, and-false}
+use borrow.Author.Tests.{not-true, not-false}
 use Rattle.cells.proofs.cell.sound_within.Statement.{statement}
 use Rattle.cells.proofs.cell.sound_within.Tie as tie
-
-cast-both : tie.Need-cast-both
-cast-both c = search needs
 
 fits-below-requires : tie.Need-fits-below-requires
 fits-below-requires c κs = search needs
 
-both-requires : tie.Need-both-requires
-both-requires c κs = search needs
-
-meets-fixed-requires : tie.Need-meets-fixed-requires
-meets-fixed-requires c κs = search needs
-
-windows-meet-requires : tie.Need-windows-meet-requires
-windows-meet-requires c κs = search needs
-
-either-requires : tie.Need-either-requires
-either-requires c κs = search needs
-
 no-requires : tie.Need-no-requires
 no-requires c κs = search needs
-
-double-fits-requires : tie.Need-double-fits-requires
-double-fits-requires c κs = search needs
-
-both-requires-2 : tie.Need-both-requires-2
-both-requires-2 c κs = search needs
-
-both-requires-3 : tie.Need-both-requires-3
-both-requires-3 c κs = search needs
 
 returns : tie.Need-returns
 returns c =
     rw (
-      c .both3 .ensures,
-      c .before .both2 .ensures,
-      c .before .before .double-fits .ensures,
-      c .before .before .before .no .ensures,
-      c .before .before .before .before .either .ensures,
-      c .before .before .before .before .before .windows-meet .ensures,
-      c .before .before .before .before .before .before .meets-fixed .ensures,
-      c .before .before .before .before .before .before .before .both .ensures,
-      c .before .before .before .before .before .before .before .before .fits-below .ensures,
+      ← c .before .before .fits-below .ensures,
+      not-true (c .before .before .fits-below .result) (sym (c .before .no .ensures) ∙ c .if1 .taken),
+      and-false,
+    )
+
+meets-fixed-requires : tie.Need-meets-fixed-requires
+meets-fixed-requires c κs = search needs
+
+returns-2 : tie.Need-returns-2
+returns-2 c = rw (← c .before .meets-fixed .ensures, c .if2 .taken, and-false)
+
+windows-meet-requires : tie.Need-windows-meet-requires
+windows-meet-requires c κs = search needs
+
+returns-3 : tie.Need-returns-3
+returns-3 c =
+    rw (
+      ← c .before .windows-meet .ensures,
+      c .if3 .taken,
+      ← c .before .before .before .meets-fixed .ensures,
+      c .before .before .if2 .left,
+      and-false,
+    )
+
+cast-both : tie.Need-cast-both
+cast-both c = search needs
+
+double-fits-requires : tie.Need-double-fits-requires
+double-fits-requires c κs = search needs
+
+both-requires : tie.Need-both-requires
+both-requires c κs = search needs
+
+returns-4 : tie.Need-returns-4
+returns-4 c =
+    let d = c .before .before .before in
+    let e = d .before .before in
+    let f = e .before .before in
+    rw (
+      c .both .ensures,
+      c .before .double-fits .ensures,
+      ← d .before .windows-meet .ensures,
+      d .if3 .left,
+      ← e .before .meets-fixed .ensures,
+      e .if2 .left,
+      and-true,
+      ← f .before .before .fits-below .ensures,
+      not-false (f .before .before .fits-below .result) (sym (f .before .no .ensures) ∙ f .if1 .left),
+      and-true,
     )
 
 pub sound-within-spec : {M : Type 1} → statement M
 sound-within-spec =
     tie.close
     (tie.spec
-    cast-both
     fits-below-requires
-    both-requires
-    meets-fixed-requires
-    windows-meet-requires
-    either-requires
     no-requires
+    returns
+    meets-fixed-requires
+    returns-2
+    windows-meet-requires
+    returns-3
+    cast-both
     double-fits-requires
-    both-requires-2
-    both-requires-3
-    returns)
+    both-requires
+    returns-4)

@@ -1,7 +1,30 @@
--- `stack_fits` meets its contract: the same tests.
+-- `stack_fits` meets its contract: the first test that fails answers no, and past them two are left.
 use borrow.Author.Needs.{needs}
+use mathlib.Core.Path.{sym, _∙_}
+use mathlib.Core.Bool.{and-true, and-false}
+use borrow.Author.Tests.{not-true, not-false}
 use Rattle.cells.proofs.stack.stack_fits.Statement.{statement}
 use Rattle.cells.proofs.stack.stack_fits.Tie as tie
+
+fits-below-requires : tie.Need-fits-below-requires
+fits-below-requires c κs = search needs
+
+no-requires : tie.Need-no-requires
+no-requires c κs = search needs
+
+returns : tie.Need-returns
+returns c =
+    rw (
+      ← c .before .before .fits-below .ensures,
+      not-true (c .before .before .fits-below .result) (sym (c .before .no .ensures) ∙ c .if1 .taken),
+      and-false,
+    )
+
+meets-fixed-requires : tie.Need-meets-fixed-requires
+meets-fixed-requires c κs = search needs
+
+returns-2 : tie.Need-returns-2
+returns-2 c = rw (← c .before .meets-fixed .ensures, c .if2 .taken, and-false, and-false)
 
 add-both : tie.Need-add-both
 add-both c = search needs
@@ -9,41 +32,28 @@ add-both c = search needs
 both-requires : tie.Need-both-requires
 both-requires c κs = search needs
 
-fits-below-requires : tie.Need-fits-below-requires
-fits-below-requires c κs = search needs
-
-meets-fixed-requires : tie.Need-meets-fixed-requires
-meets-fixed-requires c κs = search needs
-
-no-requires : tie.Need-no-requires
-no-requires c κs = search needs
-
-both-requires-2 : tie.Need-both-requires-2
-both-requires-2 c κs = search needs
-
-both-requires-3 : tie.Need-both-requires-3
-both-requires-3 c κs = search needs
-
-returns : tie.Need-returns
-returns c =
+returns-3 : tie.Need-returns-3
+returns-3 c =
+    let e = c .before in
+    let f = e .before .before in
     rw (
-      c .both3 .ensures,
-      c .before .both2 .ensures,
-      c .before .before .no .ensures,
-      c .before .before .before .meets-fixed .ensures,
-      c .before .before .before .before .fits-below .ensures,
-      c .before .before .before .before .before .both .ensures,
+      c .both .ensures,
+      ← e .before .meets-fixed .ensures,
+      e .if2 .left,
+      ← f .before .before .fits-below .ensures,
+      not-false (f .before .before .fits-below .result) (sym (f .before .no .ensures) ∙ f .if1 .left),
+      and-true,
     )
 
 pub stack-fits-spec : {M : Type 1} → statement M
 stack-fits-spec =
     tie.close
     (tie.spec
+    fits-below-requires
+    no-requires
+    returns
+    meets-fixed-requires
+    returns-2
     add-both
     both-requires
-    fits-below-requires
-    meets-fixed-requires
-    no-requires
-    both-requires-2
-    both-requires-3
-    returns)
+    returns-3)
