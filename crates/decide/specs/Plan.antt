@@ -7,15 +7,13 @@ use Rattle.records.specs.declared.value.Record.{Record}
 use Rattle.words.specs.declared.settings.Settings.{Settings}
 use Rattle.words.specs.declared.remembered.Remembered.{Remembered}
 use Rattle.words.specs.Bits.{wordOf}
-use Rattle.windows.specs.declared.window.Window.{Window}
-use Rattle.arrival.specs.declared.target.Target.{Target}
 use Rattle.arrival.specs.Target.{targetOf}
 use Rattle.deed.specs.declared.deed.Signals.{Signals}
 use Rattle.deed.specs.declared.deed.Deed.{Deed}
 use Rattle.deed.specs.Deed.{deedOf}
 use Rattle.decide.specs.declared.entry.Entry.{Entry}
 use Rattle.decide.specs.declared.plan.Plan.{Plan}
-use Rattle.decide.specs.Entry.{entryIn, entryOf}
+use Rattle.decide.specs.Entry.{entryOf}
 
 -- rule 9, from bit 15 down to bit 0: "14 illegal; 10 rollover with the cell's circular bit; 6 stack wrapped; 4 any
 -- fault; 2 the cell's end-of-message bit; 1 and 0 always."
@@ -42,10 +40,6 @@ interruptWord g wrapped =
 
 unfoldable pub planWith : Deed → Entry → Plan
 planWith d e = record { deed = d; entry = e; interrupt = interruptWord (d .signals) (e .wrapped) }
-
--- from what a command is aimed at, and the stack
-abbrev pub planFrom : Settings → Target → ℕ → Window → Record → Plan
-planFrom s target pointer block v = planWith (deedOf s target v) (entryIn pointer block)
 
 -- all that an accepted message does and reports, from RAM and what is remembered
 unfoldable pub planOf : Settings → List ℕ → Remembered → Record → Plan

@@ -1,11 +1,12 @@
 // The plan of an accepted message: the deed in the cell, the entry on the stack, and the interrupt word.
 ghost use mathlib.Core.Path.{_≡_};
-ghost use Rattle.decide.specs.Plan.{interruptWord, planWith, planFrom};
+ghost use Rattle.deed.specs.Deed.{deedOf};
+ghost use Rattle.decide.specs.Entry.{entryIn};
+ghost use Rattle.decide.specs.Plan.{interruptWord, planWith};
 use crate::entry::Entry;
 use crate::entry::entry_in;
 use arrival::target::Target;
 use deed::deed::Deed;
-use deed::deed::Signals;
 use deed::deed::deed_of;
 use records::value::Record;
 use windows::window::Window;
@@ -18,24 +19,25 @@ pub struct Plan {
     pub interrupt: u16,
 }
 
-fn interrupt_word(g: Signals, wrapped: bool) -> u16
-    ensures { λ r. ⌜ r ≡ interruptWord g wrapped ⌝ }
+// The signals one by one: the compiler would pack a struct of four bytes that is copied.
+fn interrupt_word(illegal: bool, rollover: bool, fault: bool, end: bool, wrapped: bool) -> u16
+    ensures { λ r. ⌜ r ≡ interruptWord (record { illegal = illegal; rollover = rollover; fault = fault; end = end }) wrapped ⌝ }
 {
     word_of([
         false,
-        g.illegal,
+        illegal,
         false,
         false,
         false,
-        g.rollover,
+        rollover,
         false,
         false,
         false,
         wrapped,
         false,
-        g.fault,
+        fault,
         false,
-        g.end,
+        end,
         true,
         true,
     ])
@@ -44,8 +46,13 @@ fn interrupt_word(g: Signals, wrapped: bool) -> u16
 fn plan_with(deed: Deed, entry: Entry) -> Plan
     ensures { λ r. ⌜ r ≡ planWith deed entry ⌝ }
 {
-    let signals = deed.signals;
-    let interrupt = interrupt_word(signals, entry.wrapped);
+    let interrupt = interrupt_word(
+        deed.signals.illegal,
+        deed.signals.rollover,
+        deed.signals.fault,
+        deed.signals.end,
+        entry.wrapped,
+    );
     Plan {
         deed,
         entry,
@@ -55,7 +62,7 @@ fn plan_with(deed: Deed, entry: Entry) -> Plan
 
 // Of a message that the tests let through: they have worked out target, stack pointer and block.
 pub fn plan_for(s: Settings, target: Target, pointer: u16, block: Window, v: Record) -> Plan
-    ensures { λ r. ⌜ r ≡ planFrom s target pointer block v ⌝ }
+    ensures { λ r. ⌜ r ≡ planWith (deedOf s target v) (entryIn pointer block) ⌝ }
 {
     let deed = deed_of(s, target, v);
     let entry = entry_in(pointer, block);

@@ -4,4 +4,5 @@ pub mod StatusBits
 pub mod Before
 pub mod BroadcastOff
 pub mod Failing
+pub mod Clean
 pub mod Determined

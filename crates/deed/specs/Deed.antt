@@ -1,9 +1,13 @@
 -- The deed of an accepted message: all that it does in its cell, and all that it reports but for the stack.
-use mathlib.Core.Bool.{not, _&&_}
+use Prim.Native.Nat.{ℕ}
+use mathlib.Core.Bool.{Bool, true, false, not, cond, _&&_, _||_}
+use lib.Dec.{leb, eqb}
 use Rattle.records.specs.declared.value.Record.{Record}
 use Rattle.records.specs.Value.{onBusB}
 use Rattle.records.specs.Transfer.{isTransfer}
 use Rattle.words.specs.declared.settings.Settings.{Settings}
+use Rattle.words.specs.Command.{transmits, wordCount}
+use Rattle.faults.specs.Fault.{expectedWords}
 use Rattle.arrival.specs.declared.target.Target.{Target}
 use Rattle.acts.specs.declared.act.Act.{Act}
 use Rattle.acts.specs.declared.motion.Motion.{Motion}
@@ -44,3 +48,29 @@ deedWith s t v a m =
 -- what the message does in its cell: no word of RAM is read beyond the target
 unfoldable pub deedOf : Settings → Target → Record → Deed
 deedOf s t v = deedWith s t v (actOf s t v) (motionOf s t (actOf s t v))
+
+-- what makes a message other than clean: illegal, busy, broadcast, any flag but the bus, a wrong count
+unfoldable pub isOdd : Target → Record → Bool
+isOdd t v =
+    (t .illegal || t .busy)
+    || (t .broadcast || (leb 2 (v .flags) || not (eqb (v .count) (expectedWords (v .command)))))
+
+-- the act of a clean message: no fault, and all its words stored or sent
+unfoldable pub cleanAct : ℕ → Act
+cleanAct command =
+    record {
+      faults =
+          record {
+            sync = false;
+            invalid = false;
+            count = false;
+            contents = false;
+            «no_status» = false;
+            gap = false;
+            second = false;
+          };
+      valid = true;
+      stored = cond (transmits command) 0 (wordCount command);
+      sent = cond (transmits command) (wordCount command) 0;
+      k = wordCount command;
+    }

@@ -1,23 +1,24 @@
 // The deed of an accepted message: what it does in its cell, and what it reports but for the stack.
 ghost use mathlib.Core.Path.{_≡_};
-ghost use Rattle.deed.specs.Deed.{signalsOf, deedWith, deedOf};
+ghost use Rattle.deed.specs.Deed.{deedWith, isOdd, cleanAct, deedOf};
 use crate::report::block_status;
 use crate::report::status_word;
 use acts::act::Act;
 use acts::act::act_of;
-use acts::act::act_with;
 use acts::motion::Motion;
 use acts::motion::motion_of;
 use arrival::target::Target;
-use faults::fault::any_fault;
-use faults::fault::quiet_faults;
-use faults::fault::told_fault;
+use faults::fault::Faults;
+use faults::fault::expected_words;
 use records::transfer::is_transfer;
 use records::value::Record;
 use records::value::bus_b;
 use windows::window::Window;
 use words::choose::both;
+use words::choose::either;
 use words::choose::no;
+use words::choose::pick;
+use words::command;
 use words::settings::Settings;
 
 // What the interrupt word tells of the message itself.
@@ -45,25 +46,17 @@ pub struct Deed {
     pub signals: Signals,
 }
 
-fn signals_of(t: Target, a: Act, m: Motion) -> Signals
-    ensures { λ r. ⌜ r ≡ signalsOf t a m ⌝ }
-{
-    let c = t.cell;
-    Signals {
-        illegal: t.illegal,
-        rollover: both(m.rollover, c.circular_interrupt),
-        fault: no(a.valid),
-        end: c.end_interrupt,
-    }
-}
-
+// The signals are made in place: the compiler would pack a struct of four bytes that is copied.
 fn deed_with(s: Settings, t: Target, v: Record, a: Act, m: Motion) -> Deed
     ensures { λ r. ⌜ r ≡ deedWith s t v a m ⌝ }
 {
     let faults = a.faults;
     let c = t.cell;
     let window = t.window;
-    let signals = signals_of(t, a, m);
+    let illegal = t.illegal;
+    let rolled = both(m.rollover, c.circular_interrupt);
+    let fault = no(a.valid);
+    let end = c.end_interrupt;
     Deed {
         cell: t.number,
         window,
@@ -75,17 +68,60 @@ fn deed_with(s: Settings, t: Target, v: Record, a: Act, m: Motion) -> Deed
         block_status: block_status(bus_b(v), is_transfer(v), faults, m.rollover, t.illegal),
         status: status_word(s, t, a.valid),
         answered: both(a.valid, no(t.broadcast)),
-        signals,
+        signals: Signals {
+            illegal,
+            rollover: rolled,
+            fault,
+            end,
+        },
     }
 }
 
-// Where no flag tells a fault, as of most messages, the compiler has a way of its own through all that follows.
+// What makes a message other than clean: illegal, busy, broadcast, any flag but the bus, a wrong count.
+fn is_odd(t: Target, v: Record) -> bool
+    ensures { λ r. ⌜ r ≡ isOdd t v ⌝ }
+{
+    either(
+        either(t.illegal, t.busy),
+        either(
+            t.broadcast,
+            either(
+                2 <= v.flags,
+                no(v.count as u16 == expected_words(v.command)),
+            ),
+        ),
+    )
+}
+
+// The act of a clean message: no fault, and all its words stored or sent.
+fn clean_act(command: u16) -> Act
+    ensures { λ r. ⌜ r ≡ cleanAct command ⌝ }
+{
+    let transmits = command::transmit(command);
+    let n = command::word_count(command);
+    Act {
+        faults: Faults {
+            sync: false,
+            invalid: false,
+            count: false,
+            contents: false,
+            no_status: false,
+            gap: false,
+            second: false,
+        },
+        valid: true,
+        stored: pick(transmits, 0, n),
+        sent: pick(transmits, n, 0),
+        k: n,
+    }
+}
+
+// Most messages are clean: for them the compiler has a way of its own through all that follows.
 pub fn deed_of(s: Settings, t: Target, v: Record) -> Deed
     ensures { λ r. ⌜ r ≡ deedOf s t v ⌝ }
 {
-    if no(told_fault(v)) {
-        let faults = quiet_faults(t.broadcast, v);
-        let a = act_with(s, t, v, faults, no(any_fault(faults)));
+    if no(is_odd(t, v)) {
+        let a = clean_act(v.command);
         let m = motion_of(s, t, a);
         return deed_with(s, t, v, a, m);
     }

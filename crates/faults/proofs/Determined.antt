@@ -18,6 +18,3 @@ faults-for-settled κs a x y v w p q = (determined p q, refl)
 
 pub told-fault-settled : Settled 0 fault.told_fault.Kinds.ps fault.told_fault.Kinds.r fault.told_fault.Reads.Post
 told-fault-settled κs a x y v w p q = (determined p q, refl)
-
-pub quiet-faults-settled : Settled 0 fault.quiet_faults.Kinds.ps fault.quiet_faults.Kinds.r fault.quiet_faults.Reads.Post
-quiet-faults-settled κs a x y v w p q = (determined p q, refl)

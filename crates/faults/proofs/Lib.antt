@@ -1,4 +1,3 @@
 pub mod Before
 pub mod Failing
-pub mod Quiet
 pub mod Determined

@@ -1,6 +1,6 @@
 -- Rule 1: the faults of a message.
 use Prim.Native.Nat.{ℕ}
-use mathlib.Core.Bool.{Bool, false, not, cond, _&&_, _||_}
+use mathlib.Core.Bool.{Bool, not, cond, _&&_, _||_}
 use lib.Dec.{eqb}
 use Rattle.records.specs.declared.value.Record.{Record}
 use Rattle.words.specs.Command.{transmits, wordCount}
@@ -34,19 +34,6 @@ faultsOf expected contents v =
 -- "Contents fault: a broadcast transmit."
 unfoldable pub faultsFor : Bool → Record → Faults
 faultsFor broadcast v = faultsOf (expectedWords (v .command)) (broadcast && transmits (v .command)) v
-
--- the same where no flag tells a fault
-unfoldable pub quietFaults : Bool → Record → Faults
-quietFaults broadcast v =
-    record {
-      sync = false;
-      invalid = false;
-      count = not (eqb (v .count) (expectedWords (v .command)));
-      contents = broadcast && transmits (v .command);
-      «no_status» = false;
-      gap = false;
-      second = false;
-    }
 
 -- "Valid means no fault."
 unfoldable pub anyFault : Faults → Bool

@@ -1,6 +1,6 @@
 // Rule 1: the faults of a message.
 ghost use mathlib.Core.Path.{_≡_};
-ghost use Rattle.faults.specs.Fault.{expectedWords, toldFault, faultsOf, faultsFor, quietFaults, anyFault};
+ghost use Rattle.faults.specs.Fault.{expectedWords, toldFault, faultsOf, faultsFor, anyFault};
 use records::transfer::bad_second;
 use records::transfer::no_status;
 use records::transfer::transfer_fails;
@@ -67,23 +67,6 @@ pub fn faults_for(broadcast: bool, v: Record) -> Faults
         both(broadcast, command::transmit(v.command)),
         v,
     )
-}
-
-// The faults of a message of which no flag tells one. The noes are written out, so that the compiler leaves out all that
-// they decide.
-pub fn quiet_faults(broadcast: bool, v: Record) -> Faults
-    ensures { λ r. ⌜ r ≡ quietFaults broadcast v ⌝ }
-{
-    let expected = expected_words(v.command);
-    Faults {
-        sync: false,
-        invalid: false,
-        count: no(v.count as u16 == expected),
-        contents: both(broadcast, command::transmit(v.command)),
-        no_status: false,
-        gap: false,
-        second: false,
-    }
 }
 
 pub fn any_fault(f: Faults) -> bool

@@ -23,9 +23,10 @@ use Rattle.cells.specs.Cell.{windowOf, soundWithin, soundCell}
 use Rattle.cells.specs.Stack.{stackPointer, stackWindow, stackFits, stackSound}
 use Rattle.arrival.specs.declared.target.Target.{Target}
 use Rattle.arrival.specs.Target.{cellFor, targetWith, targetOf}
-use Rattle.decide.specs.Entry.{entryOf}
+use Rattle.deed.specs.Deed.{deedOf}
+use Rattle.decide.specs.Entry.{entryIn, entryOf}
 use Rattle.decide.specs.declared.plan.Plan.{Plan}
-use Rattle.decide.specs.Plan.{planFrom, planOf}
+use Rattle.decide.specs.Plan.{planWith, planOf}
 use Rattle.carry.specs.Writes.{writesOf}
 use Rattle.carry.specs.Reply.{replyWrites}
 use Rattle.message.specs.declared.perform.Performed.{Performed}
@@ -172,7 +173,7 @@ module _ (ram : List ℕ) (s : Settings) (pointer : ℕ) (block : Window) (p : p
 
     pub plan-worked-out :
         (before : Remembered) (t : Target) (q : Plan) → t ≡ targetWith ram s (v .command) c window →
-        q ≡ planFrom s t pointer block v → q ≡ planOf s ram before v
+        q ≡ planWith (deedOf s t v) (entryIn pointer block) → q ≡ planOf s ram before v
     unfolding planOf targetOf entryOf
     plan-worked-out before t q g h = rw (h, g, f, e, w, p)
 

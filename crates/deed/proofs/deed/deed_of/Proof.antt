@@ -1,29 +1,18 @@
--- `deed_of` meets its contract: act, motion, and the parts made of them, where no flag tells a fault and where one does.
+-- `deed_of` meets its contract: act, motion, and the parts made of them, of a clean message and of any other.
 use borrow.Author.Needs.{needs}
-use mathlib.Core.Path.{_≡_}
-use Rattle.faults.proofs.Quiet.{quiet-faults}
-use Rattle.acts.specs.Act.{actOf}
 use Rattle.deed.specs.Deed.{deedOf}
+use Rattle.deed.proofs.Clean.{not-odd}
 use Rattle.deed.proofs.deed.deed_of.Statement.{statement}
 use Rattle.deed.proofs.deed.deed_of.Tie as tie
 
-told-fault-requires : tie.Need-told-fault-requires
-told-fault-requires c κs = search needs
+is-odd-requires : tie.Need-is-odd-requires
+is-odd-requires c κs = search needs
 
 no-requires : tie.Need-no-requires
 no-requires c κs = search needs
 
-quiet-faults-requires : tie.Need-quiet-faults-requires
-quiet-faults-requires c κs = search needs
-
-any-fault-requires : tie.Need-any-fault-requires
-any-fault-requires c κs = search needs
-
-no-requires-2 : tie.Need-no-requires-2
-no-requires-2 c κs = search needs
-
-act-with-requires : tie.Need-act-with-requires
-act-with-requires c κs = search needs
+clean-act-requires : tie.Need-clean-act-requires
+clean-act-requires c κs = search needs
 
 motion-of-requires : tie.Need-motion-of-requires
 motion-of-requires c κs = search needs
@@ -32,21 +21,18 @@ deed-with-requires : tie.Need-deed-with-requires
 deed-with-requires c κs = search needs
 
 returns : tie.Need-returns
-unfolding deedOf actOf
+unfolding deedOf
 returns c =
-    let begun = c .before .before .before .before .before .before in
+    let begun = c .before .before .before in
     let asked = begun .before in
-    let told = asked .before in
-    let a = told .before .args in
-    let quiet = quiet-faults (a .t .broadcast) (a .v) _ (told .told-fault .ensures) _ (asked .no .ensures) (begun .if1 .taken) in
+    let odd = asked .before in
+    let a = odd .before .args in
+    let clean = not-odd (a .s) (a .t) (a .v) _ (odd .is-odd .ensures) _ (asked .no .ensures) (begun .if1 .taken) in
     rw (
       c .deed-with .ensures,
       c .before .motion-of .ensures,
-      c .before .before .act-with .ensures,
-      c .before .before .before .no2 .ensures,
-      c .before .before .before .before .any-fault .ensures,
-      c .before .before .before .before .before .quiet-faults .ensures,
-      ← quiet,
+      c .before .before .clean-act .ensures,
+      ← clean,
     )
 
 act-of-requires : tie.Need-act-of-requires
@@ -66,12 +52,9 @@ pub deed-of-spec : {M : Type 1} → statement M
 deed-of-spec =
     tie.close
     (tie.spec
-    told-fault-requires
+    is-odd-requires
     no-requires
-    quiet-faults-requires
-    any-fault-requires
-    no-requires-2
-    act-with-requires
+    clean-act-requires
     motion-of-requires
     deed-with-requires
     returns

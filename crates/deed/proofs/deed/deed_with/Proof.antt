@@ -1,11 +1,14 @@
--- `deed_with` meets its contract: the parts by name.
+-- `deed_with` meets its contract: the parts by name, and the four signals.
 use borrow.Author.Needs.{needs}
-use Rattle.deed.specs.Deed.{deedWith}
+use Rattle.deed.specs.Deed.{signalsOf, deedWith}
 use Rattle.deed.proofs.deed.deed_with.Statement.{statement}
 use Rattle.deed.proofs.deed.deed_with.Tie as tie
 
-signals-of-requires : tie.Need-signals-of-requires
-signals-of-requires c κs = search needs
+both-requires : tie.Need-both-requires
+both-requires c κs = search needs
+
+no-requires : tie.Need-no-requires
+no-requires c κs = search needs
 
 bus-b-requires : tie.Need-bus-b-requires
 bus-b-requires c κs = search needs
@@ -19,33 +22,36 @@ block-status-requires c κs = search needs
 status-word-requires : tie.Need-status-word-requires
 status-word-requires c κs = search needs
 
-no-requires : tie.Need-no-requires
-no-requires c κs = search needs
+no-requires-2 : tie.Need-no-requires-2
+no-requires-2 c κs = search needs
 
-both-requires : tie.Need-both-requires
-both-requires c κs = search needs
+both-requires-2 : tie.Need-both-requires-2
+both-requires-2 c κs = search needs
 
 returns : tie.Need-returns
-unfolding deedWith
-returns c = rw (
-  c .both .ensures,
-  c .before .no .ensures,
-  c .before .before .status-word .ensures,
-  c .before .before .before .block-status .ensures,
-  c .before .before .before .before .is-transfer .ensures,
-  c .before .before .before .before .before .bus-b .ensures,
-  c .before .before .before .before .before .before .signals-of .ensures,
-)
+unfolding signalsOf deedWith
+returns c =
+    rw (
+      c .both2 .ensures,
+      c .before .no2 .ensures,
+      c .before .before .status-word .ensures,
+      c .before .before .before .block-status .ensures,
+      c .before .before .before .before .is-transfer .ensures,
+      c .before .before .before .before .before .bus-b .ensures,
+      c .before .before .before .before .before .before .no .ensures,
+      c .before .before .before .before .before .before .before .both .ensures,
+    )
 
 pub deed-with-spec : {M : Type 1} → statement M
 deed-with-spec =
     tie.close
     (tie.spec
-    signals-of-requires
+    both-requires
+    no-requires
     bus-b-requires
     is-transfer-requires
     block-status-requires
     status-word-requires
-    no-requires
-    both-requires
+    no-requires-2
+    both-requires-2
     returns)
