@@ -1,8 +1,12 @@
--- Answers as plain words.
+-- Answers as plain words, and what is remembered after them.
 use Prim.Native.Nat.{ℕ}
 use mathlib.Core.List.{List, [], _∷_}
 use Rattle.words.specs.Bits.{bitOf}
 use Rattle.message.specs.declared.answer.Answer.{Answer}
+use Rattle.message.specs.declared.perform.Performed.{Performed}
+use Rattle.message.specs.declared.perform.Performed.the-variants.{Refused, Done}
+use Rattle.lent.specs.Over.{over}
+use Rattle.lent.specs.Setup.{rememberedWords}
 
 -- nine words, in the answer's order; `answered` is 1 or 0
 unfoldable pub answerWords : Answer → List ℕ
@@ -17,3 +21,8 @@ answerWords a =
     ∷ a .sent
     ∷ a .interrupt
     ∷ []
+
+-- put over what is lent; of a refusal, ".. remembered state keep[s its] contents"
+unfoldable pub rememberedOver : Performed → List ℕ → List ℕ
+rememberedOver (Refused number) xs = xs
+rememberedOver (Done p m) xs = over xs (rememberedWords m)

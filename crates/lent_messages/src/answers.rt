@@ -1,13 +1,15 @@
 // Answers as plain words.
 ghost use mathlib.Core.Path.{_≡_};
 ghost use Rattle.lent.specs.Over.{over};
-ghost use Rattle.lent.specs.Setup.{rememberedWords};
-ghost use Rattle.lent_messages.specs.Answers.{answerWords};
+ghost use Rattle.message.specs.Answer.{refusedWith};
+ghost use Rattle.message.specs.Performed.{answerIn};
+ghost use Rattle.lent_messages.specs.Answers.{answerWords, rememberedOver};
 use lent::over::put_four;
 use lent::setup::put_remembered;
 use memory::ram::put;
 use message::answer::Answer;
-use message::answer::Outcome;
+use message::answer::accepted_with;
+use message::perform::Performed;
 use words::bits::bit_of;
 
 fn put_answer(xs: &mut [u16], a: Answer)
@@ -18,16 +20,31 @@ fn put_answer(xs: &mut [u16], a: Answer)
     put_four(xs, 0, a.number, a.block_status, a.cell, a.before);
 }
 
-// What a message answers and what is remembered after it, put over what is lent; the number is also the result, so that
-// it reaches the caller whatever room there is.
-pub fn hand_back(remembered: &mut [u16], answer: &mut [u16], o: Outcome) -> u16
-    ensures number { λ r. ⌜ r ≡ o .answer .number ⌝ }
-    ensures remembered { λ r. ⌜ now (remembered .exit) ≡ over (now (remembered .entry)) (rememberedWords (o .remembered)) ⌝ }
-    ensures answer { λ r. ⌜ now (answer .exit) ≡ over (now (answer .entry)) (answerWords (o .answer)) ⌝ }
+// "Result: the number, the rest zero".
+fn put_refusal(xs: &mut [u16], number: u16)
+    ensures { λ r. ⌜ now (xs .exit) ≡ over (now (xs .entry)) (answerWords (refusedWith number)) ⌝ }
 {
-    let m = o.remembered;
-    let a = o.answer;
-    put_remembered(remembered, m);
-    put_answer(answer, a);
-    a.number
+    put(xs, 8, 0);
+    put_four(xs, 4, 0, 0, 0, 0);
+    put_four(xs, 0, number, 0, 0, 0);
+}
+
+// What a message answers and what is remembered after it, put over what is lent; the number is also the result, so that
+// it reaches the caller whatever room there is. A refusal has a way of its own: nothing is worked out for it.
+pub fn hand_back(remembered: &mut [u16], answer: &mut [u16], performed: Performed) -> u16
+    ensures number { λ r. ⌜ r ≡ answerIn performed .number ⌝ }
+    ensures remembered { λ r. ⌜ now (remembered .exit) ≡ rememberedOver performed (now (remembered .entry)) ⌝ }
+    ensures answer { λ r. ⌜ now (answer .exit) ≡ over (now (answer .entry)) (answerWords (answerIn performed)) ⌝ }
+{
+    match performed {
+        Performed::Refused(number) => {
+            put_refusal(answer, number);
+            number
+        }
+        Performed::Done(plan, m) => {
+            put_remembered(remembered, m);
+            put_answer(answer, accepted_with(plan));
+            0
+        }
+    }
 }

@@ -217,7 +217,7 @@ module _ (s : Settings) (h : Heard) (before : Remembered) (ram reply : List ℕ)
       f
 
   -- what was performed tells the answer, and what is remembered
-  answer-told : answerIn (performedOf s h x) ≡ answerOf s h x
+  pub answer-told : answerIn (performedOf s h x) ≡ answerOf s h x
   unfolding performedOf performedWith answerIn
   answer-told =
       ⊎-elim
