@@ -1,13 +1,20 @@
-//! With the feature `engine`, links the proved library's archive. Without it
-//! there is nothing to do.
+//! With the feature `engine`, links the proved library's four archives.
+//! Without it there is nothing to do.
 
 use std::env;
 use std::path::{Path, PathBuf};
 use std::process;
 
-/// Names the folder of the archive, if it is not where `rt staticlib` puts it.
+/// Names the folder of the archives, if it is not where `scripts/proved` puts
+/// them.
 const FOLDER: &str = "SOLKVERVA_LIB";
-const ARCHIVE: &str = "libboundary.a";
+/// An archive `libNAME.a` for each.
+const NAMES: [&str; 4] = [
+    "boundary",
+    "boundary_bytes",
+    "boundary_values",
+    "boundary_origins",
+];
 
 fn main() {
     println!("cargo:rerun-if-changed=build.rs");
@@ -29,17 +36,19 @@ fn link() -> Result<(), String> {
         ));
     }
     let folder = archive_folder();
-    let archive = folder.join(ARCHIVE);
-    println!("cargo:rerun-if-changed={}", archive.display());
-    if !archive.exists() {
-        return Err(format!(
-            "the proved library is missing: {} is not there. Make it with 'scripts/proved library' at the top of \
-             the repository, or name its folder in {FOLDER}",
-            archive.display()
-        ));
-    }
     println!("cargo:rustc-link-search=native={}", folder.display());
-    println!("cargo:rustc-link-lib=static=boundary");
+    for name in NAMES {
+        let archive = folder.join(format!("lib{name}.a"));
+        println!("cargo:rerun-if-changed={}", archive.display());
+        if !archive.exists() {
+            return Err(format!(
+                "the proved library is missing: {} is not there. Make it with 'scripts/proved library' at the top of \
+                 the repository, or name its folder in {FOLDER}",
+                archive.display()
+            ));
+        }
+        println!("cargo:rustc-link-lib=static={name}");
+    }
     Ok(())
 }
 

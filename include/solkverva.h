@@ -1,5 +1,7 @@
-/* The proved terminal, for callers in C and Rust. scripts/proved library builds what to link, for x86-64:
- * target/built/target/staticlib/libboundary.a.
+/* The proved terminal, for callers in C and Rust. scripts/proved library builds what to link, for x86-64: four archives
+ * in target/built/target/staticlib/, libboundary.a, libboundary_bytes.a (solkverva_message), libboundary_values.a
+ * (solkverva_message_value) and libboundary_origins.a (solkverva_who and the two like it). None needs another, so their
+ * order is free.
  *
  * Every function returns, with an answer for any contents and any lengths of what is lent, and writes nothing else.
  *

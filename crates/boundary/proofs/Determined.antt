@@ -5,25 +5,9 @@ use mathlib.Core.Path.{refl}
 use Rattle.words.proofs.Settled.{determined, Settled}
 use Rattle.boundary.proofs.calls
 use Rattle.boundary.proofs.descriptions
-use Rattle.boundary.proofs.origins
 
 pub check-area-settled : Settled 2 calls.solkverva_check_area.Kinds.ps calls.solkverva_check_area.Kinds.r calls.solkverva_check_area.Reads.Post
 check-area-settled κs a x y v w p q = (determined p q, refl)
-
-pub message-settled : Settled 6 calls.solkverva_message.Kinds.ps calls.solkverva_message.Kinds.r calls.solkverva_message.Reads.Post
-message-settled κs a x y v w p q =
-    let lent = determined (p .1) (q .1) in (
-      determined (p .0) (q .0),
-      λ i. (lent i .ram, (lent i .reply, (v .1 .1 .0, (lent i .remembered, (v .1 .1 .1 .1 .0, (lent i .answer, v .1 .1 .1 .1 .1 .1)))))),
-    )
-
-pub message-value-settled :
-    Settled 6 calls.solkverva_message_value.Kinds.ps calls.solkverva_message_value.Kinds.r calls.solkverva_message_value.Reads.Post
-message-value-settled κs a x y v w p q =
-    let lent = determined (p .1) (q .1) in (
-      determined (p .0) (q .0),
-      λ i. (lent i .ram, (lent i .reply, (v .1 .1 .0, (lent i .remembered, (v .1 .1 .1 .1 .0, (lent i .answer, v .1 .1 .1 .1 .1 .1)))))),
-    )
 
 pub read-settled : Settled 2 calls.solkverva_read.Kinds.ps calls.solkverva_read.Kinds.r calls.solkverva_read.Reads.Post
 read-settled κs a x y v w p q = (determined (p .0) (q .0), λ i. (v .0, (determined (p .1) (q .1) i, v .1 .1)))
@@ -47,45 +31,6 @@ label-area-settled κs a x y v w p q = (
       (
         determined (p .1 .0) (q .1 .0) i,
         (determined (p .1 .1 .0) (q .1 .1 .0) i, (determined (p .1 .1 .1) (q .1 .1 .1) i, v .1 .1 .1 .1 .1)),
-      ),
-    ),
-  ),
-)
-
-pub who-fill-settled :
-    Settled 7 origins.solkverva_who_fill.Kinds.ps origins.solkverva_who_fill.Kinds.r origins.solkverva_who_fill.Reads.Post
-who-fill-settled κs a x y v w p q =
-    let lent = determined (p .1) (q .1) in (
-      determined (p .0) (q .0),
-      λ i. (
-        lent i .ram,
-        (lent i .numbers, (lent i .marks, (v .1 .1 .1 .0, (lent i .remembered, (lent i .records, v .1 .1 .1 .1 .1 .1))))),
-      ),
-    )
-
-pub who-entry-settled :
-    Settled 4 origins.solkverva_who_entry.Kinds.ps origins.solkverva_who_entry.Kinds.r origins.solkverva_who_entry.Reads.Post
-who-entry-settled κs a x y v w p q = (
-  determined (p .0) (q .0),
-  λ i. (
-    v .0,
-    (v .1 .0, (v .1 .1 .0, (determined (p .1 .0) (q .1 .0) i, (determined (p .1 .1) (q .1 .1) i, v .1 .1 .1 .1 .1)))),
-  ),
-)
-
-pub who-settled : Settled 5 origins.solkverva_who.Kinds.ps origins.solkverva_who.Kinds.r origins.solkverva_who.Reads.Post
-who-settled κs a x y v w p q = (
-  determined (p .0) (q .0),
-  λ i. (
-    determined (p .1 .0) (q .1 .0) i,
-    (
-      v .1 .0,
-      (
-        v .1 .1 .0,
-        (
-          v .1 .1 .1 .0,
-          (determined (p .1 .1 .0) (q .1 .1 .0) i, (determined (p .1 .1 .1) (q .1 .1 .1) i, v .1 .1 .1 .1 .1 .1)),
-        ),
       ),
     ),
   ),

@@ -2,10 +2,9 @@
 use Prim.Native.Nat.{ℕ}
 use mathlib.Core.Path.{_≡_, refl, sym, ap}
 use mathlib.Core.Logic.{⊎-elim}
-use mathlib.Core.List.{List, _∷_}
+use mathlib.Core.List.{List}
 use lib.ListN.{replicate}
 use lib.Dec.{eqb}
-use lib.Seq.{set-getD}
 use Rattle.words.specs.declared.settings.Settings.{Settings}
 use Rattle.words.proofs.Basics.{yes-or-no}
 use Rattle.records.specs.declared.value.Record.{Record}
@@ -17,30 +16,9 @@ use Rattle.label.specs.declared.one.CellLabel.{CellLabel}
 use Rattle.label.specs.declared.whole.AreaLabel.{AreaLabel}
 use Rattle.label.specs.Label.{cellRefusal, cellAnswer, cellLabel, areaAnswer, areaLabel, pairsInto}
 use Rattle.label.proofs.Refused.{cell-refused, area-refused, room-kept}
-use Rattle.message.specs.Heard.{Heard}
-use Rattle.message.specs.Answer.{refusedWith}
-use Rattle.message.proofs.Refusals.{refused-answer, refused-state}
 use Rattle.lent.specs.Over.{over}
-use Rattle.lent.specs.Setup.{rememberedFrom, rememberedWords}
-use Rattle.lent_messages.specs.Answers.{answerWords}
 use Rattle.lent_messages.specs.Values.{valueWords}
 use Rattle.lent_areas.specs.Labels.{sharerWords, listingWords, countWords}
-use Rattle.boundary.specs.Call.{Lent, lentOf, stateIn, handedBack, callNumber, lentAfter}
-
--- words that are read and put back are as they were
-pub remembered-kept : (xs : List ℕ) → over xs (rememberedWords (rememberedFrom xs)) ≡ xs
-unfolding rememberedWords rememberedFrom
-remembered-kept xs = rw (set-getD xs 0 0) (set-getD xs 1 0)
-
--- a message, from bytes or from a value: "RAM, reply and remembered state keep their contents"
-pub message-refused :
-    (s : Settings) (h : Heard) (l : Lent) →
-    (callNumber s h l ≡ 0 → ⊥) →
-    lentAfter s h l
-    ≡ lentOf (l .ram) (l .reply) (l .remembered) (over (l .answer) (callNumber s h l ∷ replicate 8 0))
-unfolding callNumber lentAfter handedBack answerWords refusedWith
-message-refused s h l m =
-    rw (refused-state s h (stateIn l) m, refused-answer s h (stateIn l) m, remembered-kept)
 
 -- the reader
 pub read-refused :

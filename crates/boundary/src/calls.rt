@@ -4,30 +4,24 @@ ghost use Rattle.layout.specs.Layout.{readRecord};
 ghost use Rattle.layout.specs.Writing.{writeRecord};
 ghost use Rattle.area.specs.Area.{checkArea};
 ghost use Rattle.label.specs.Label.{cellLabel, areaLabel, pairsInto};
-ghost use Rattle.message.specs.Heard.{heardBytes, heardValue};
 ghost use Rattle.lent.specs.Over.{over};
 ghost use Rattle.lent.specs.Setup.{settingsFrom};
 ghost use Rattle.lent_areas.specs.Check.{checkWord};
 ghost use Rattle.lent_messages.specs.Values.{valueFrom, valueWords};
 ghost use Rattle.lent_areas.specs.Labels.{listingWords, countWords};
-ghost use Rattle.boundary.specs.Call.{lentOf, callNumber, lentAfter};
 use area::area::check_area;
 use label::one::label_cell;
 use label::whole::label_area;
 use layout::reader::read;
 use layout::writer::write;
 use lent::over::put_bytes;
-use lent::setup::remembered_from;
 use lent::setup::settings_from;
 use lent_areas::checks::check_word;
 use lent_areas::labels::put_cells;
 use lent_areas::labels::put_counts;
 use lent_areas::labels::put_listing;
-use lent_messages::answers::hand_back;
 use lent_messages::values::put_value;
 use lent_messages::values::value_from;
-use message::serve::message_from_bytes;
-use message::serve::message_from_value;
 
 // The whole-area check: the number in the upper half, the cell in the lower.
 #[no_mangle]
@@ -35,46 +29,6 @@ pub extern "C" fn solkverva_check_area(ram: &[u16], settings: &[u16]) -> u32
     ensures { λ r. ⌜ r ≡ checkWord (checkArea (now (ram .entry)) (settingsFrom (now (settings .entry)))) ⌝ }
 {
     check_word(check_area(ram, settings_from(settings)))
-}
-
-// One message from record bytes. The number is the result; the answer's words, the number first, and the remembered
-// state are put over what is lent.
-#[no_mangle]
-pub extern "C" fn solkverva_message(
-    ram: &mut [u16],
-    reply: &mut [u16],
-    settings: &[u16],
-    remembered: &mut [u16],
-    bytes: &[u8],
-    answer: &mut [u16],
-) -> u16
-    ensures number { λ r. ⌜ r ≡ callNumber (settingsFrom (now (settings .entry))) (heardBytes (now (bytes .entry))) (lentOf (now (ram .entry)) (now (reply .entry)) (now (remembered .entry)) (now (answer .entry))) ⌝ }
-    ensures lent { λ r. ⌜ lentOf (now (ram .exit)) (now (reply .exit)) (now (remembered .exit)) (now (answer .exit)) ≡ lentAfter (settingsFrom (now (settings .entry))) (heardBytes (now (bytes .entry))) (lentOf (now (ram .entry)) (now (reply .entry)) (now (remembered .entry)) (now (answer .entry))) ⌝ }
-{
-    let s = settings_from(settings);
-    let m = remembered_from(remembered);
-    let o = message_from_bytes(ram, reply, s, m, bytes);
-    hand_back(remembered, answer, o)
-}
-
-// One message from a record value.
-#[no_mangle]
-pub extern "C" fn solkverva_message_value(
-    ram: &mut [u16],
-    reply: &mut [u16],
-    settings: &[u16],
-    remembered: &mut [u16],
-    value: &[u16],
-    answer: &mut [u16],
-) -> u16
-    ensures number { λ r. ⌜ r ≡ callNumber (settingsFrom (now (settings .entry))) (heardValue (valueFrom (now (value .entry)))) (lentOf (now (ram .entry)) (now (reply .entry)) (now (remembered .entry)) (now (answer .entry))) ⌝ }
-    ensures lent { λ r. ⌜ lentOf (now (ram .exit)) (now (reply .exit)) (now (remembered .exit)) (now (answer .exit)) ≡ lentAfter (settingsFrom (now (settings .entry))) (heardValue (valueFrom (now (value .entry)))) (lentOf (now (ram .entry)) (now (reply .entry)) (now (remembered .entry)) (now (answer .entry))) ⌝ }
-{
-    let s = settings_from(settings);
-    let m = remembered_from(remembered);
-    let v = value_from(value);
-    let o = message_from_value(ram, reply, s, m, v);
-    hand_back(remembered, answer, o)
 }
 
 // The record reader.

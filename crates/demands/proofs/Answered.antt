@@ -43,9 +43,10 @@ use Rattle.message.proofs.FromBytes.{record-number}
 use Rattle.lent.specs.Over.{over}
 use Rattle.lent_areas.specs.Check.{checkWord}
 use Rattle.lent_messages.specs.Values.{valueWords}
-use Rattle.boundary.specs.Call.{Lent, lentOf, stateIn, callNumber, lentAfter}
+use Rattle.lent_messages.specs.Call.{Lent, lentOf, stateIn, callNumber, lentAfter}
 use Rattle.lent_areas.specs.Labels.{listingWords, countWords}
-use Rattle.boundary.proofs.Refused.{message-refused, read-refused, write-refused, label-cell-refused, counts-refused, unsound-refused, pairs-refused}
+use Rattle.lent_messages.proofs.Refused.{message-refused}
+use Rattle.boundary.proofs.Refused.{read-refused, write-refused, label-cell-refused, counts-refused, unsound-refused, pairs-refused}
 use Rattle.lent_areas.proofs.Halves.{upper-half, lower-half}
 use Rattle.demands.specs.First.{writerTests, ExportedAnswered, TakeAnswered, rising, Answered, MessageAnswered, CheckAnswered, ReadAnswered, WriteAnswered}
 

@@ -26,8 +26,8 @@ use Rattle.tables.specs.Mark.{entryOf}
 use Rattle.tables.specs.Table.{Tables, tablesOf, entryAt, filledWith}
 use Rattle.replay.specs.declared.fill.Filled.{Filled}
 use Rattle.lent.specs.Over.{over}
-use Rattle.boundary.specs.Origins.{partWords, LentTables, tablesAfter}
-use Rattle.boundary.proofs.NotTold.{fill-refused, not-told, who-refused}
+use Rattle.boundary_origins.specs.Origins.{partWords, LentTables, tablesAfter}
+use Rattle.boundary_origins.proofs.NotTold.{fill-refused, not-told, who-refused}
 use Rattle.demands.specs.First.{rising, Answered, AskAnswered, GoOnAnswered, entryTests, ToldAnswered}
 use Rattle.demands.proofs.Answered.{answered}
 

@@ -18,9 +18,11 @@ use Rattle.replay.proofs.fill
 use Rattle.view.proofs.view
 use Rattle.lent.specs.Setup.{settingsFrom}
 use Rattle.lent_messages.specs.Values.{valueFrom}
-use Rattle.boundary.specs.Origins.{lentTablesOf}
+use Rattle.boundary_origins.specs.Origins.{lentTablesOf}
+use Rattle.boundary_bytes.proofs.from_bytes
+use Rattle.boundary_values.proofs.from_value
 use Rattle.boundary.proofs.calls
-use Rattle.boundary.proofs.origins
+use Rattle.boundary_origins.proofs.origins
 use Rattle.demands.specs.Calls.{fromBytes, fromValue, walked, exportedBytes, exportedValue}
 use Rattle.demands.specs.First.{MessageAnswered, Demand}
 use Rattle.demands.proofs.Answered.{step-answered, message-answered, check-answered, read-answered, write-answered, cell-labelled, area-labelled, take-answered, exported-answered, exported-check, exported-read-answered, exported-write-answered, exported-cell-labelled, exported-area-labelled}
@@ -121,13 +123,13 @@ first =
       exported-message =
           record {
             any = λ κs given. tt;
-            ends = calls.solkverva_message.Met.met;
+            ends = from_bytes.solkverva_message.Met.met;
             says = λ c. exported-answered (exportedBytes c) (c .allowed .0) (c .allowed .1);
           };
       exported-message-value =
           record {
             any = λ κs given. tt;
-            ends = calls.solkverva_message_value.Met.met;
+            ends = from_value.solkverva_message_value.Met.met;
             says = λ c. exported-answered (exportedValue c) (c .allowed .0) (c .allowed .1);
           };
       exported-check-area =

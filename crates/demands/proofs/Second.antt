@@ -3,7 +3,7 @@ use mathlib.Core.Path.{_≡_, refl, sym, _∙_}
 use denote.Ref.{now}
 use Rattle.message.proofs.Edges.{edges}
 use Rattle.message.proofs.Refusals.{number-told}
-use Rattle.boundary.specs.Call.{stateIn, callNumber, lentAfter}
+use Rattle.lent_messages.specs.Call.{stateIn, callNumber, lentAfter}
 use Rattle.demands.specs.Calls.{fromBytes, fromValue, walked, Exported, exportedBytes, exportedValue}
 use Rattle.demands.specs.Second.{MessageWorked, ExportedWorked, Demand}
 use Rattle.demands.proofs.Worked.{stepped, message-worked}

@@ -14,7 +14,9 @@ use Rattle.message.proofs.serve
 use Rattle.trace.proofs.walk
 use Rattle.lent.specs.Setup.{settingsFrom}
 use Rattle.lent_messages.specs.Values.{valueFrom}
-use Rattle.boundary.specs.Call.{Lent, lentOf}
+use Rattle.lent_messages.specs.Call.{Lent, lentOf}
+use Rattle.boundary_bytes.proofs.from_bytes
+use Rattle.boundary_values.proofs.from_value
 use Rattle.boundary.proofs.calls
 use Rattle.demands.specs.Entry.{Call}
 
@@ -125,7 +127,8 @@ pub record Exported : Type 0 where
 
 abbrev pub ExportedBytes : Type 0
 ExportedBytes =
-    Call 6 calls.solkverva_message.Kinds.ps calls.solkverva_message.Kinds.r calls.solkverva_message.Reads.Post
+    Call 6 from_bytes.solkverva_message.Kinds.ps from_bytes.solkverva_message.Kinds.r
+    from_bytes.solkverva_message.Reads.Post
 
 abbrev pub exportedBytes : ExportedBytes → Exported
 exportedBytes c =
@@ -141,8 +144,8 @@ exportedBytes c =
 
 abbrev pub ExportedValue : Type 0
 ExportedValue =
-    Call 6 calls.solkverva_message_value.Kinds.ps calls.solkverva_message_value.Kinds.r
-    calls.solkverva_message_value.Reads.Post
+    Call 6 from_value.solkverva_message_value.Kinds.ps from_value.solkverva_message_value.Kinds.r
+    from_value.solkverva_message_value.Reads.Post
 
 abbrev pub exportedValue : ExportedValue → Exported
 exportedValue c =

@@ -52,10 +52,12 @@ use Rattle.view.proofs.view
 use Rattle.lent.specs.Over.{over}
 use Rattle.lent.specs.Setup.{settingsFrom}
 use Rattle.lent_messages.specs.Values.{valueFrom}
-use Rattle.boundary.specs.Call.{stateIn}
-use Rattle.boundary.specs.Origins.{lentTablesOf}
+use Rattle.lent_messages.specs.Call.{stateIn}
+use Rattle.boundary_origins.specs.Origins.{lentTablesOf}
+use Rattle.boundary_bytes.proofs.from_bytes
+use Rattle.boundary_values.proofs.from_value
 use Rattle.boundary.proofs.calls
-use Rattle.boundary.proofs.origins
+use Rattle.boundary_origins.proofs.origins
 use Rattle.demands.specs.Entry.{Entry}
 use Rattle.demands.specs.Calls.{Message, fromBytes, fromValue, walked, Exported, exportedBytes, exportedValue}
 use Rattle.demands.specs.Walks.{Walks}
@@ -236,13 +238,14 @@ pub record Demand : Type 2 where
       (λ c. TakeAnswered (now (c .given .0)) (c .given .1 .0) (c .back))
   -- the same for callers in C and Rust
   pub exported-message :
-      Entry 6 calls.solkverva_message.Kinds.ps calls.solkverva_message.Kinds.r calls.solkverva_message.Reads.Pre
-      calls.solkverva_message.Reads.Post calls.solkverva_message.Statement.statement
+      Entry 6 from_bytes.solkverva_message.Kinds.ps from_bytes.solkverva_message.Kinds.r
+      from_bytes.solkverva_message.Reads.Pre from_bytes.solkverva_message.Reads.Post
+      from_bytes.solkverva_message.Statement.statement
       (λ c. ExportedAnswered (exportedBytes c))
   pub exported-message-value :
-      Entry 6 calls.solkverva_message_value.Kinds.ps calls.solkverva_message_value.Kinds.r
-      calls.solkverva_message_value.Reads.Pre calls.solkverva_message_value.Reads.Post
-      calls.solkverva_message_value.Statement.statement
+      Entry 6 from_value.solkverva_message_value.Kinds.ps from_value.solkverva_message_value.Kinds.r
+      from_value.solkverva_message_value.Reads.Pre from_value.solkverva_message_value.Reads.Post
+      from_value.solkverva_message_value.Statement.statement
       (λ c. ExportedAnswered (exportedValue c))
   pub exported-check-area :
       Entry 2 calls.solkverva_check_area.Kinds.ps calls.solkverva_check_area.Kinds.r

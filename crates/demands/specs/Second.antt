@@ -28,7 +28,7 @@ use Rattle.message.specs.Answer.{acceptedWith}
 use Rattle.message.specs.Edges.{runCase, cases, expected}
 use Rattle.lent.specs.Over.{over}
 use Rattle.lent_messages.specs.Values.{valueFrom, valueWords}
-use Rattle.boundary.specs.Call.{stateIn, handedBack}
+use Rattle.lent_messages.specs.Call.{stateIn, handedBack}
 use Rattle.demands.specs.Calls.{Message, FromBytes, fromBytes, FromValue, fromValue, Read, Write, ReadWritten, WriteRead, Walk, walked, Exported, ExportedBytes, exportedBytes, ExportedValue, exportedValue, ExportedRead, ExportedWrite}
 use Rattle.demands.specs.Walks.{Walks}
 

@@ -1,3 +1,4 @@
 pub mod Order
 pub mod Room
+pub mod Kept
 pub mod Determined

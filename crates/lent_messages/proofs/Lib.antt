@@ -1,2 +1,4 @@
 pub mod Early
+pub mod Called
+pub mod Refused
 pub mod Determined

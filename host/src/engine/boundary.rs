@@ -89,6 +89,7 @@ mod linked {
 }
 
 /// The number in the upper 16 bits, the lowest unsound cell in the lower.
+#[inline]
 pub fn check_area(ram: &[u16], settings: &[u16]) -> u32 {
     // SAFETY: each pointer and length is a slice's; nothing is written.
     unsafe {
@@ -98,6 +99,7 @@ pub fn check_area(ram: &[u16], settings: &[u16]) -> u32 {
 
 /// One message from the bytes of a record: the number, which is also the
 /// answer's first word.
+#[inline]
 pub fn message(
     ram: &mut [u16],
     reply: &mut [u16],
@@ -127,6 +129,7 @@ pub fn message(
 }
 
 /// One message from the words of a record value: the number, as of `message`.
+#[inline]
 pub fn message_value(
     ram: &mut [u16],
     reply: &mut [u16],
@@ -155,6 +158,7 @@ pub fn message_value(
 }
 
 /// The label of one cell: the number, and the words of its listing.
+#[inline]
 pub fn label_cell(ram: &[u16], settings: &[u16], cell: u16, listing: &mut [u16]) -> u16 {
     // SAFETY: as for `message`.
     unsafe {
@@ -172,6 +176,7 @@ pub fn label_cell(ram: &[u16], settings: &[u16], cell: u16, listing: &mut [u16])
 
 /// The label of the whole area: the number, how many unsound cells and pairs
 /// there are, and both.
+#[inline]
 pub fn label_area(
     ram: &[u16],
     settings: &[u16],
@@ -197,12 +202,14 @@ pub fn label_area(
 }
 
 /// The record reader: 0, 4 or 5, and the value's words.
+#[inline]
 pub fn read(bytes: &[u8], value: &mut [u16]) -> u16 {
     // SAFETY: as for `message`.
     unsafe { linked::solkverva_read(bytes.as_ptr(), bytes.len(), value.as_mut_ptr(), value.len()) }
 }
 
 /// The record writer: 0 or 5, and the record's bytes.
+#[inline]
 pub fn write(value: &[u16], bytes: &mut [u8]) -> u16 {
     // SAFETY: as for `message`.
     unsafe { linked::solkverva_write(value.as_ptr(), value.len(), bytes.as_mut_ptr(), bytes.len()) }

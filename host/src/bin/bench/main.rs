@@ -45,43 +45,6 @@ fn usage() -> ExitCode {
     ExitCode::from(2)
 }
 
-/// One side's functions over slices.
-struct Side {
-    message: fn(&mut [u16], &mut [u16], &[u16], &mut [u16], &[u8], &mut [u16]) -> u16,
-    message_value: fn(&mut [u16], &mut [u16], &[u16], &mut [u16], &[u16], &mut [u16]) -> u16,
-    check_area: fn(&[u16], &[u16]) -> u32,
-    label_cell: fn(&[u16], &[u16], u16, &mut [u16]) -> u16,
-    label_area: fn(&[u16], &[u16], &mut [u16], &mut [u16], &mut [u16]) -> u16,
-    read: fn(&[u8], &mut [u16]) -> u16,
-    write: fn(&[u16], &mut [u8]) -> u16,
-    who: fn(&[u16], &Settings, &[u8], u16) -> Result<Option<Origin>, u16>,
-    who_all: fn(&[u16], &Settings, &[u8]) -> u64,
-}
-
-const PLAIN: Side = Side {
-    message: plain::message,
-    message_value: plain::message_value,
-    check_area: plain::check_area,
-    label_cell: plain::label_cell,
-    label_area: plain::label_area,
-    read: plain::read,
-    write: plain::write,
-    who: terminal::who::who,
-    who_all: plain_who_all,
-};
-
-const PROVED: Side = Side {
-    message: proved::message,
-    message_value: proved::message_value,
-    check_area: proved::check_area,
-    label_cell: proved::label_cell,
-    label_area: proved::label_area,
-    read: proved::read,
-    write: proved::write,
-    who: engine::who::who,
-    who_all: proved_who_all,
-};
-
 /// The tables of a whole trace: a sum over what they say of two addresses.
 macro_rules! who_all {
     ($walk:ident, $go_on:expr) => {{
@@ -119,8 +82,8 @@ fn count(name: &str, side: &str, messages: &str) -> ExitCode {
     let rows = rows();
     let row = rows.iter().find(|row| row.name == name);
     match (row, side, messages.parse()) {
-        (Some(row), "plain", Ok(messages)) => drop(run(&PLAIN, row, messages)),
-        (Some(row), "proved", Ok(messages)) => drop(run(&PROVED, row, messages)),
+        (Some(row), "plain", Ok(messages)) => drop(run_plain(row, messages)),
+        (Some(row), "proved", Ok(messages)) => drop(run_proved(row, messages)),
         _ => return usage(),
     }
     ExitCode::SUCCESS
@@ -128,18 +91,14 @@ fn count(name: &str, side: &str, messages: &str) -> ExitCode {
 
 fn measure(row: &Row) {
     let mut messages = 100;
-    while run(&PLAIN, row, messages)
-        .0
-        .max(run(&PROVED, row, messages).0)
-        < BATCH
-    {
+    while run_plain(row, messages).0.max(run_proved(row, messages).0) < BATCH {
         messages *= 2;
     }
     let mut speeds = [Vec::new(), Vec::new()];
     let mut ratios = Vec::new();
     for _ in 0..REPEATS {
-        let (plain_time, plain_sum) = run(&PLAIN, row, messages);
-        let (proved_time, proved_sum) = run(&PROVED, row, messages);
+        let (plain_time, plain_sum) = run_plain(row, messages);
+        let (proved_time, proved_sum) = run_proved(row, messages);
         assert_eq!(plain_sum, proved_sum, "{}: the sides differ", row.name);
         let times = [plain_time, proved_time].map(|time| time.as_secs_f64());
         for (speeds, time) in speeds.iter_mut().zip(times) {
@@ -152,16 +111,88 @@ fn measure(row: &Row) {
     println!("{name}|{plain:.0}|{proved:.0}|{}", Spread::of(ratios));
 }
 
-/// The time that a side takes, and a sum over what it answered.
-fn run(side: &Side, row: &Row, messages: usize) -> (Duration, u64) {
-    let mut lent = Lent::new(row);
+/// The time that a piece of work takes, done so often, and a sum over what it
+/// answered.
+fn repeat(messages: usize, mut work: impl FnMut() -> (u32, u16)) -> (Duration, u64) {
     let mut sum = 0;
     let start = Clock::start();
     for _ in 0..messages {
-        sum += lent.ask(side, row);
+        let (number, last) = work();
+        sum += u64::from(number) + u64::from(last);
     }
     (start.elapsed(), sum)
 }
+
+/// A function that repeats a row's work on one side. The kind of work is chosen
+/// before the loop, and in it the side's functions are called directly.
+macro_rules! side {
+    ($run:ident, $side:ident, $who:path, $who_all:path) => {
+        fn $run(row: &Row, messages: usize) -> (Duration, u64) {
+            let mut lent = Lent::new(row);
+            let Lent {
+                ram,
+                settings,
+                reply,
+                remembered,
+                answer,
+                value,
+                bytes,
+                listing,
+                counts,
+                unsound,
+                pairs,
+            } = &mut lent;
+            let ram = ram.as_mut_slice();
+            match &row.work {
+                Work::Bytes(bytes) => repeat(messages, || {
+                    let number = $side::message(ram, reply, settings, remembered, bytes, answer);
+                    (number.into(), answer[8])
+                }),
+                Work::Value(value) => repeat(messages, || {
+                    let number =
+                        $side::message_value(ram, reply, settings, remembered, value, answer);
+                    (number.into(), answer[8])
+                }),
+                Work::Area => repeat(messages, || ($side::check_area(ram, settings), 0)),
+                Work::LabelCell(cell) => repeat(messages, || {
+                    let number = $side::label_cell(ram, settings, *cell, listing);
+                    (number.into(), listing[0])
+                }),
+                Work::LabelArea => repeat(messages, || {
+                    let number = $side::label_area(ram, settings, counts, unsound, pairs);
+                    (number.into(), counts[1])
+                }),
+                Work::Read(bytes) => repeat(messages, || {
+                    let number = $side::read(bytes, value);
+                    (number.into(), value[35])
+                }),
+                Work::Write(value) => repeat(messages, || {
+                    let number = $side::write(value, bytes);
+                    (number.into(), bytes[79].into())
+                }),
+                Work::Walk(records) => repeat(messages, || {
+                    ram.copy_from_slice(&row.ram);
+                    *remembered = [0; REMEMBERED_WORDS];
+                    for record in records.chunks_exact(RECORD_BYTES) {
+                        $side::message(ram, reply, settings, remembered, record, answer);
+                    }
+                    (answer[0].into(), ram[0x0402])
+                }),
+                Work::Who(address, records) => repeat(messages, || {
+                    let told = $who(&row.ram, &row.settings, records, *address);
+                    (0, sum_of(told) as u16)
+                }),
+                Work::WhoAll(records) => repeat(messages, || {
+                    let told = $who_all(&row.ram, &row.settings, records);
+                    (0, told as u16)
+                }),
+            }
+        }
+    };
+}
+
+side!(run_plain, plain, terminal::who::who, plain_who_all);
+side!(run_proved, proved, engine::who::who, proved_who_all);
 
 /// What a side is lent in a run.
 struct Lent {
@@ -193,61 +224,5 @@ impl Lent {
             unsound: [0; UNSOUND_WORDS],
             pairs: [0; PAIRS_WORDS],
         }
-    }
-
-    /// Asks a side once; returns a sum over what it answered.
-    #[inline(always)]
-    fn ask(&mut self, side: &Side, row: &Row) -> u64 {
-        let Lent {
-            ram,
-            settings,
-            reply,
-            remembered,
-            answer,
-            value,
-            bytes,
-            listing,
-            counts,
-            unsound,
-            pairs,
-        } = self;
-        let (number, last) = match &row.work {
-            Work::Bytes(bytes) => {
-                let number = (side.message)(ram, reply, settings, remembered, bytes, answer);
-                (number.into(), answer[8])
-            }
-            Work::Value(value) => {
-                let number = (side.message_value)(ram, reply, settings, remembered, value, answer);
-                (number.into(), answer[8])
-            }
-            Work::Area => ((side.check_area)(ram, settings), 0),
-            Work::LabelCell(cell) => {
-                let number = (side.label_cell)(ram, settings, *cell, listing);
-                (number.into(), listing[0])
-            }
-            Work::LabelArea => {
-                let number = (side.label_area)(ram, settings, counts, unsound, pairs);
-                (number.into(), counts[1])
-            }
-            Work::Read(bytes) => ((side.read)(bytes, value).into(), value[35]),
-            Work::Write(value) => ((side.write)(value, bytes).into(), bytes[79].into()),
-            Work::Walk(records) => {
-                ram.copy_from_slice(&row.ram);
-                *remembered = [0; REMEMBERED_WORDS];
-                for record in records.chunks_exact(RECORD_BYTES) {
-                    (side.message)(ram, reply, settings, remembered, record, answer);
-                }
-                (answer[0].into(), ram[0x0402])
-            }
-            Work::Who(address, records) => {
-                let told = (side.who)(&row.ram, &row.settings, records, *address);
-                (0, sum_of(told) as u16)
-            }
-            Work::WhoAll(records) => {
-                let told = (side.who_all)(&row.ram, &row.settings, records);
-                (0, told as u16)
-            }
-        };
-        u64::from(number) + u64::from(last)
     }
 }

@@ -24,6 +24,7 @@ mod linked {
 }
 
 /// What a cell is like: the number, 0, 1 or 3, and the words that tell it.
+#[inline]
 pub fn describe_cell(ram: &[u16], settings: &[u16], cell: u16, description: &mut [u16]) -> u16 {
     // SAFETY: each pointer and length is a slice's, and what is written is
     // borrowed for this call alone.
@@ -41,6 +42,7 @@ pub fn describe_cell(ram: &[u16], settings: &[u16], cell: u16, description: &mut
 }
 
 /// What the stack is like: the number, 0, 1 or 3, and the words that tell it.
+#[inline]
 pub fn describe_stack(ram: &[u16], settings: &[u16], description: &mut [u16]) -> u16 {
     // SAFETY: as for `describe_cell`.
     unsafe {

@@ -49,6 +49,7 @@ mod linked {
 
 /// A part of a trace for every address at once: 0, 1 or 3. RAM and the tables
 /// go on from what they hold.
+#[inline]
 pub fn who_fill(
     ram: &mut [u16],
     numbers: &mut [u64],
@@ -81,6 +82,7 @@ pub fn who_fill(
 }
 
 /// What filled tables say of an address: 0 or 12, the record and the part.
+#[inline]
 pub fn who_entry(
     numbers: &[u64],
     marks: &[u16],
@@ -106,6 +108,7 @@ pub fn who_entry(
 
 /// One address of a whole trace: 0, 1, 3 or 12, the record and the part. RAM
 /// holds the image, and afterwards what the trace leaves.
+#[inline]
 pub fn who(
     ram: &mut [u16],
     settings: &[u16],
