@@ -51,7 +51,7 @@ unfolding writesOf deedWrites stackWrites applyWrites
 plan-carried s p v at m m₁ m₂ m₃ m₄ e₁ e₂ e₃ a e₄ =
     rw (apply-append, apply-append, apply-append, ← e₁, ← e₂, ← e₃, ← a) e₄
 
--- the reply where the status is sent, and where it is not
+-- the reply where the status and words are sent, the status alone, and nothing
 pub reply-sent :
     (ram : List ℕ) (d : Deed) (r r₁ r₂ : List ℕ) → d .answered ≡ true →
     r₁ ≡ set r 0 (d .status) →
@@ -59,6 +59,12 @@ pub reply-sent :
     r₂ ≡ applyWrites (replyWrites ram d) r
 unfolding replyWrites applyWrites
 reply-sent ram d r r₁ r₂ a e₁ e₂ = rw (a, e₂, e₁)
+
+pub reply-status :
+    (ram : List ℕ) (d : Deed) (r r₁ : List ℕ) → d .answered ≡ true → d .sent ≡ 0 → r₁ ≡ set r 0 (d .status) →
+    r₁ ≡ applyWrites (replyWrites ram d) r
+unfolding replyWrites applyWrites writesTo
+reply-status ram d r r₁ a n e = rw (a, n, e)
 
 pub reply-none : (ram : List ℕ) (d : Deed) (r : List ℕ) → d .answered ≡ false → r ≡ applyWrites (replyWrites ram d) r
 unfolding replyWrites applyWrites

@@ -6,12 +6,15 @@ use copies::send::send_words;
 use deed::deed::Deed;
 use memory::ram::put;
 
+// Only where words are sent are they copied: a receive sends its status alone.
 pub fn send(ram: &[u16], reply: &mut [u16], d: Deed)
     ensures { λ r. ⌜ now (reply .exit) ≡ applyWrites (replyWrites (now (ram .entry)) d) (now (reply .entry)) ⌝ }
 {
     if d.answered {
         let w = d.window;
         put(reply, 0, d.status);
-        send_words(ram, reply, w, d.sent);
+        if d.sent != 0 {
+            send_words(ram, reply, w, d.sent);
+        }
     }
 }

@@ -22,11 +22,14 @@ fn store_each(ram: &mut [u16], w: Window, words: &[u16], n: u16)
     }
 }
 
-// The stored words, from the pointer on, wrapping inside the window: in two runs, where all of them lie in RAM.
+// The stored words, from the pointer on, wrapping inside the window: in two runs, where all of them lie in RAM. A single
+// word, which is what most status-like messages have, needs no run: a run is copied by a call.
 pub fn store_words(ram: &mut [u16], w: Window, words: &[u16], n: u16)
     ensures { λ r. ⌜ now (ram .exit) ≡ applyWrites (dataWrites w (now (words .entry)) n) (now (ram .entry)) ⌝ }
 {
-    if both(goes_once(w, ram.len(), n), n as usize <= words.len()) {
+    if n == 1 {
+        put(ram, place(w, 0), word_at(words, 0));
+    } else if both(goes_once(w, ram.len(), n), n as usize <= words.len()) {
         let r = runs_of(w, n);
         copy_run(ram, r.pointer, words, 0, r.first);
         copy_run(ram, r.start, words, r.first, r.rest);
