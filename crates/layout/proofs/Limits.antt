@@ -61,10 +61,8 @@ pair-zero high low =
     (lt-or-ge 0 low))
     (lt-or-ge 0 high)
 
-module _ (s : List ℕ) (count : ℕ) (b : Bytes s) (few : count < 32) where
-  abbrev from : ℕ
-  from = 64 - 2 * count
-
+-- limits from `from` on: 255 for the bytes of the first `count` words, and 0 for the others
+module _ (s : List ℕ) (count from : ℕ) (b : Bytes s) (start : from + 2 * count ≡ 64) where
   -- the limits of a word's two bytes say what the layout says of the word
   held :
       (n : ℕ) → n < 32 →
@@ -105,5 +103,5 @@ module _ (s : List ℕ) (count : ℕ) (b : Bytes s) (few : count < 32) where
       )
 
   -- all 64 bytes keep their limits exactly when the words after the count are zero
-  pub within-all : within s limits (64 - 2 * count) 64 ≡ lastsZero (wordsIn s) count 32
+  pub within-all : within s limits from 64 ≡ lastsZero (wordsIn s) count 32
   within-all = within-words 32 (omega arith)

@@ -59,7 +59,7 @@ returns-2 c =
     let a = c .before .before .before .before .before .args in
     let byte = c .before .before .before .before .shared-slice-known .given in
     let e : c .before .loop .i ≡ 64 = omega arith in
-    rw e at (c .before .loop .inv .1) ∙ within-all (a .s .now) (a .count) (λ k. omega (arith, byte k)) (omega arith)
+    rw e at (c .before .loop .inv .1) ∙ within-all (a .s .now) (a .count) _ (λ k. omega (arith, byte k)) (omega arith)
 
 pub lasts-are-zero-spec : {M : Type 1} → statement M
 lasts-are-zero-spec =
