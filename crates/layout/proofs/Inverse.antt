@@ -14,12 +14,12 @@ use Rattle.layout.specs.declared.writer.Written.{Written}
 use Rattle.words.specs.Fill.{fillFrom, fill}
 use Rattle.records.specs.Value.{zeroWords, keepsLayout}
 use Rattle.words.proofs.Fill.{length-fill, fill-at}
-use Rattle.layout.specs.Layout.{wordAt, wordsIn, valueIn, gapZero, breaksLayout, readRecord, notRead}
+use Rattle.layout.specs.Layout.{wordsIn, valueIn, gapZero, breaksLayout, readRecord, notRead}
 use Rattle.layout.specs.Writing.{zeroBytes, headerFields, wordFields, fieldsOf, bytesOf, writeRecord}
 use Rattle.words.proofs.Basics.{yes-or-no, lt-or-ge, eq-or-ne}
 use Rattle.layout.proofs.Numbers.{Bytes, zeros-number, number-zeros}
 use Rattle.layout.proofs.Fields.{endToEnd, numbersIn, valuesIn, heldIn, length-fields, bytes-fields, fields-put, fields-anew, fields-again}
-use Rattle.layout.proofs.Places.{layout-kept}
+use Rattle.layout.proofs.Places.{word-at, layout-kept}
 use Rattle.layout.proofs.Cases.{read-length, read-layout, read-good, write-layout, write-good}
 
 -- what the type `Record` says of a value
@@ -148,10 +148,6 @@ pub record Given (v : Record) : Type 0 where
 words-length : (s : List ℕ) → length (wordsIn s) ≡ 32
 unfolding wordsIn
 words-length s = length-fill 0 _ zeroWords 32
-
-word-at : (s : List ℕ) (k : ℕ) → k < 32 → getD (wordsIn s) k 0 ≡ wordAt s (16 + 2 * k)
-unfolding wordsIn
-word-at s k l = fill-at (λ k. wordAt s (16 + 2 * k)) zeroWords 32 k (omega arith) l
 
 typed-value : (s : List ℕ) → Bytes s → Typed (valueIn s)
 unfolding valueIn

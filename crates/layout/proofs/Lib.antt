@@ -4,6 +4,7 @@ pub mod Swapped
 pub mod Turns
 pub mod Cases
 pub mod Places
+pub mod Limits
 pub mod Copied
 pub mod Inverse
 pub mod Trips

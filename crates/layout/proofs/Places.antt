@@ -1,5 +1,5 @@
 -- What stands at each place of a record's bytes and words: the definitions of Layout and Value, place by place.
-use Prim.Native.Nat.{ℕ, zero, suc, _+_, _<_, _≤_}
+use Prim.Native.Nat.{ℕ, zero, suc, _+_, _*_, _<_, _≤_}
 use native.Mathlib.Omega.{arith}
 use mathlib.Core.Path.{_≡_, refl}
 use mathlib.Core.Logic.{_↔_, ⊎-elim}
@@ -10,9 +10,10 @@ use lib.Dec.{ltb, leb}
 use borrow.Author.Tests.{eq-eqb, eqb-true, lt-ltb, le-ltb, le-leb, leb-true, not-true, not-false}
 use Rattle.records.specs.declared.value.Record.{Record}
 use Rattle.records.specs.Transfer.{breaksTransfer}
-use Rattle.records.specs.Value.{lastsZero, keepsLayout}
+use Rattle.records.specs.Value.{zeroWords, lastsZero, keepsLayout}
 use Rattle.records.proofs.Rules.{KeepsTransfer, kept-of, unbroken-of}
-use Rattle.layout.specs.Layout.{areZero, valueIn, gapZero, breaksLayout}
+use Rattle.layout.specs.Layout.{wordAt, areZero, wordsIn, valueIn, gapZero, breaksLayout}
+use Rattle.words.proofs.Fill.{fill-at}
 use Rattle.words.proofs.Basics.{lt-or-ge, eq-or-ne, and-left, and-right}
 
 pub are-zero-at : (s : List ℕ) (from n k : ℕ) → areZero s from n ≡ true → k < n → getD s (from + k) 0 ≡ 0
@@ -30,6 +31,10 @@ unfolding areZero
 are-zero-of s from zero h = refl
 are-zero-of s from (suc n) h =
     simp (are-zero-of s from n (λ k l. h k (omega arith)), eq-eqb (getD s (from + n) 0) 0 (h n (omega arith)))
+
+pub word-at : (s : List ℕ) (k : ℕ) → k < 32 → getD (wordsIn s) k 0 ≡ wordAt s (16 + 2 * k)
+unfolding wordsIn
+word-at s k l = fill-at (λ k. wordAt s (16 + 2 * k)) zeroWords 32 k (omega arith) l
 
 pub lasts-zero-at :
     (words : List ℕ) (count n k : ℕ) → lastsZero words count n ≡ true → k < n → count ≤ k → getD words k 0 ≡ 0

@@ -5,9 +5,9 @@ ghost use lib.ListN.{length, getD};
 ghost use Rattle.layout.specs.Layout.{wordAt, areZero, wordsIn, valueIn, breaksLayout, readRecord, notRead};
 ghost use Rattle.layout.specs.Swapped.{swapped};
 ghost use Rattle.words.specs.Fill.{fill};
-ghost use Rattle.records.specs.Value.{zeroWords};
+ghost use Rattle.records.specs.Value.{zeroWords, lastsZero};
 use records::value::Record;
-use records::value::keeps_layout;
+use records::value::keeps_header;
 use records::value::zero_value;
 use words::choose::both;
 use words::choose::no;
@@ -98,11 +98,35 @@ fn value_in(s: &[u8]) -> Record
     }
 }
 
+// Whether the words after the count are zero. Each byte is held to a limit, 255 before the count's end and 0 after it:
+// the compiler then compares sixteen bytes at a time.
+fn lasts_are_zero(s: &[u8], count: u8) -> bool
+    requires { ⌜ length (now s) ≡ 80 ⌝ }
+    ensures { λ r. ⌜ r ≡ lastsZero (wordsIn (now (s .entry))) count 32 ⌝ }
+{
+    let limits =
+        b"\xff\xff\xff\xff\xff\xff\xff\xff\xff\xff\xff\xff\xff\xff\xff\xff\xff\xff\xff\xff\xff\xff\xff\xff\xff\xff\xff\xff\xff\xff\xff\xff\xff\xff\xff\xff\xff\xff\xff\xff\xff\xff\xff\xff\xff\xff\xff\xff\xff\xff\xff\xff\xff\xff\xff\xff\xff\xff\xff\xff\xff\xff\xff\xff\x00\x00\x00\x00\x00\x00\x00\x00\x00\x00\x00\x00\x00\x00\x00\x00\x00\x00\x00\x00\x00\x00\x00\x00\x00\x00\x00\x00\x00\x00\x00\x00\x00\x00\x00\x00\x00\x00\x00\x00\x00\x00\x00\x00\x00\x00\x00\x00\x00\x00\x00\x00\x00\x00\x00\x00\x00\x00\x00\x00\x00\x00\x00\x00";
+    if 32 <= count {
+        return true;
+    }
+    let from = 64 - 2 * (count as usize);
+    let mut ok = true;
+    let mut i: usize = 0;
+    while i < 64 {
+        ok = both(ok, s[16 + i] <= limits[from + i]);
+        i += 1;
+    }
+    ok
+}
+
 fn breaks_layout(s: &[u8], v: Record) -> bool
     requires { ⌜ (length (now s) ≡ 80) × (v ≡ valueIn (now s)) ⌝ }
     ensures { λ r. ⌜ r ≡ breaksLayout (now (s .entry)) ⌝ }
 {
-    no(both(are_zero(s, 8, 8), keeps_layout(v)))
+    no(both(
+        are_zero(s, 8, 8),
+        both(keeps_header(v), lasts_are_zero(s, v.count)),
+    ))
 }
 
 fn not_read(number: u16) -> Reading

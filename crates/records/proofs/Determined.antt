@@ -17,6 +17,9 @@ wrong-sync-settled κs a x y v w p q = (determined p q, refl)
 pub invalid-word-settled : Settled 0 value.invalid_word.Kinds.ps value.invalid_word.Kinds.r value.invalid_word.Reads.Post
 invalid-word-settled κs a x y v w p q = (determined p q, refl)
 
+pub keeps-header-settled : Settled 0 value.keeps_header.Kinds.ps value.keeps_header.Kinds.r value.keeps_header.Reads.Post
+keeps-header-settled κs a x y v w p q = (determined p q, refl)
+
 pub keeps-layout-settled : Settled 0 value.keeps_layout.Kinds.ps value.keeps_layout.Kinds.r value.keeps_layout.Reads.Post
 keeps-layout-settled κs a x y v w p q = (determined p q, refl)
 

@@ -29,8 +29,10 @@ unfoldable pub lastsZero : List ℕ → ℕ → ℕ → Bool
 lastsZero words count zero = true
 lastsZero words count (suc n) = lastsZero words count n && (ltb n count || eqb (getD words n 0) 0)
 
--- "higher bits zero", those above the flags of a transfer; "Count is .. 0 to 33"; the rules of a transfer; "Words after
--- the first min(count, 32) are zero."
+-- "higher bits zero", those above the flags of a transfer; "Count is .. 0 to 33"; the rules of a transfer
+abbrev pub keepsHeader : Record → Bool
+keepsHeader v = (leb (v .flags) 127 && leb (v .count) 33) && not (breaksTransfer v)
+
+-- the header's rules; "Words after the first min(count, 32) are zero."
 unfoldable pub keepsLayout : Record → Bool
-keepsLayout v =
-    ((leb (v .flags) 127 && leb (v .count) 33) && not (breaksTransfer v)) && lastsZero (v .words) (v .count) 32
+keepsLayout v = keepsHeader v && lastsZero (v .words) (v .count) 32

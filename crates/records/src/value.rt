@@ -1,6 +1,6 @@
 // The record value, its flags, and the rules that a value keeps.
 ghost use mathlib.Core.Path.{_≡_};
-ghost use Rattle.records.specs.Value.{zeroValue, onBusB, hasWrongSync, hasInvalidWord, lastsZero, keepsLayout};
+ghost use Rattle.records.specs.Value.{zeroValue, onBusB, hasWrongSync, hasInvalidWord, lastsZero, keepsHeader, keepsLayout};
 use crate::transfer::breaks_transfer;
 use words::choose::both;
 use words::choose::no;
@@ -60,12 +60,16 @@ fn lasts_zero(words: [u16; 32], count: u8) -> bool
     ok
 }
 
+// The rules of a record but for its words, which the reader tests as bytes.
+pub fn keeps_header(v: Record) -> bool
+    ensures { λ r. ⌜ r ≡ keepsHeader v ⌝ }
+{
+    both(both(v.flags <= 127, v.count <= 33), no(breaks_transfer(v)))
+}
+
 pub fn keeps_layout(v: Record) -> bool
     ensures { λ r. ⌜ r ≡ keepsLayout v ⌝ }
 {
     let words = v.words;
-    both(
-        both(both(v.flags <= 127, v.count <= 33), no(breaks_transfer(v))),
-        lasts_zero(words, v.count),
-    )
+    both(keeps_header(v), lasts_zero(words, v.count))
 }
