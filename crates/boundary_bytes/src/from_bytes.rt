@@ -6,7 +6,7 @@ ghost use Rattle.lent_messages.specs.Call.{lentOf, callNumber, lentAfter};
 use lent::setup::remembered_from;
 use lent::setup::settings_from;
 use lent_messages::answers::hand_back;
-use message::serve::message_from_bytes;
+use message::heard::perform_bytes;
 
 // One message from record bytes. The number is the result; the answer's words, the number first, and the remembered
 // state are put over what is lent.
@@ -24,6 +24,6 @@ pub extern "C" fn solkverva_message(
 {
     let s = settings_from(settings);
     let m = remembered_from(remembered);
-    let o = message_from_bytes(ram, reply, s, m, bytes);
-    hand_back(remembered, answer, o)
+    let performed = perform_bytes(ram, reply, s, m, bytes);
+    hand_back(remembered, answer, performed)
 }

@@ -8,7 +8,7 @@ use lent::setup::remembered_from;
 use lent::setup::settings_from;
 use lent_messages::answers::hand_back;
 use lent_messages::values::value_from;
-use message::serve::message_from_value;
+use message::heard::perform_value;
 
 // One message from a record value.
 #[no_mangle]
@@ -26,6 +26,6 @@ pub extern "C" fn solkverva_message_value(
     let s = settings_from(settings);
     let m = remembered_from(remembered);
     let v = value_from(value);
-    let o = message_from_value(ram, reply, s, m, v);
-    hand_back(remembered, answer, o)
+    let performed = perform_value(ram, reply, s, m, v);
+    hand_back(remembered, answer, performed)
 }

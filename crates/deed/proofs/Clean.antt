@@ -27,7 +27,7 @@ record Clean (t : Target) (v : Record) : Type 0 where
   flags : v .flags < 2
   count : v .count ≡ expectedWords (v .command)
 
-clean-of : (t : Target) (v : Record) → isOdd t v ≡ false → Clean t v
+clean-of : (t : Target) (v : Record) → isOdd (t .illegal) (t .busy) (t .broadcast) (v .flags) (not (eqb (v .count) (expectedWords (v .command)))) ≡ false → Clean t v
 unfolding isOdd
 clean-of t v e =
     let high = leb 2 (v .flags) in
@@ -65,6 +65,6 @@ clean-act s t v c =
 
 -- the same, in the code's way: a yes that it is not odd
 pub not-odd :
-    (s : Settings) (t : Target) (v : Record) (odd : Bool) → odd ≡ isOdd t v → (clean : Bool) → clean ≡ not odd → clean ≡ true →
+    (s : Settings) (t : Target) (v : Record) (odd : Bool) → odd ≡ isOdd (t .illegal) (t .busy) (t .broadcast) (v .flags) (not (eqb (v .count) (expectedWords (v .command)))) → (clean : Bool) → clean ≡ not odd → clean ≡ true →
     actOf s t v ≡ cleanAct (v .command)
 not-odd s t v odd e clean f h = clean-act s t v (clean-of t v (sym e ∙ not-true odd (sym f ∙ h)))

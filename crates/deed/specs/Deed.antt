@@ -50,10 +50,8 @@ unfoldable pub deedOf : Settings → Target → Record → Deed
 deedOf s t v = deedWith s t v (actOf s t v) (motionOf s t (actOf s t v))
 
 -- what makes a message other than clean: illegal, busy, broadcast, any flag but the bus, a wrong count
-unfoldable pub isOdd : Target → Record → Bool
-isOdd t v =
-    (t .illegal || t .busy)
-    || (t .broadcast || (leb 2 (v .flags) || not (eqb (v .count) (expectedWords (v .command)))))
+unfoldable pub isOdd : Bool → Bool → Bool → ℕ → Bool → Bool
+isOdd illegal busy broadcast flags miscounted = (illegal || busy) || (broadcast || (leb 2 flags || miscounted))
 
 -- the act of a clean message: no fault, and all its words stored or sent
 unfoldable pub cleanAct : ℕ → Act

@@ -77,19 +77,14 @@ fn deed_with(s: Settings, t: Target, v: Record, a: Act, m: Motion) -> Deed
     }
 }
 
-// What makes a message other than clean: illegal, busy, broadcast, any flag but the bus, a wrong count.
-fn is_odd(t: Target, v: Record) -> bool
-    ensures { λ r. ⌜ r ≡ isOdd t v ⌝ }
+// What makes a message other than clean: illegal, busy, broadcast, any flag but the bus, a wrong count. Asked of plain
+// values, so that the compiler need not take target and record apart.
+fn is_odd(illegal: bool, busy: bool, broadcast: bool, flags: u8, miscounted: bool) -> bool
+    ensures { λ r. ⌜ r ≡ isOdd illegal busy broadcast flags miscounted ⌝ }
 {
     either(
-        either(t.illegal, t.busy),
-        either(
-            t.broadcast,
-            either(
-                2 <= v.flags,
-                no(v.count as u16 == expected_words(v.command)),
-            ),
-        ),
+        either(illegal, busy),
+        either(broadcast, either(2 <= flags, miscounted)),
     )
 }
 
@@ -120,7 +115,8 @@ fn clean_act(command: u16) -> Act
 pub fn deed_of(s: Settings, t: Target, v: Record) -> Deed
     ensures { λ r. ⌜ r ≡ deedOf s t v ⌝ }
 {
-    if no(is_odd(t, v)) {
+    let miscounted = no(v.count as u16 == expected_words(v.command));
+    if no(is_odd(t.illegal, t.busy, t.broadcast, v.flags, miscounted)) {
         let a = clean_act(v.command);
         let m = motion_of(s, t, a);
         return deed_with(s, t, v, a, m);

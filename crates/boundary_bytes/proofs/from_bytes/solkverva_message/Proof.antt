@@ -10,8 +10,8 @@ settings-from-requires c κs = search needs
 remembered-from-requires : tie.Need-remembered-from-requires
 remembered-from-requires c κs = search needs
 
-message-from-bytes-requires : tie.Need-message-from-bytes-requires
-message-from-bytes-requires c κs = search needs
+perform-bytes-requires : tie.Need-perform-bytes-requires
+perform-bytes-requires c κs = search needs
 
 hand-back-requires : tie.Need-hand-back-requires
 hand-back-requires c κs = search needs
@@ -34,9 +34,9 @@ returns c =
     let served = put .before .before .before .before .before .before .before in
     let m = served .before .before .before .remembered-from .ensures in
     let s = served .before .before .before .before .before .settings-from .ensures in
-    let said = rw (s, m) at (served .message-from-bytes .ensures) in
+    let said = rw (s, m) at (served .perform-bytes .ensures) in
     let back = put .hand-back .ensures in
-    called _ _ _ _ _ _ _ _ _ _ (said .0) (said .1) (back .0) (back .1 .0) (back .1 .1)
+    called _ _ _ _ _ _ _ _ _ (said .0) (said .1 .0) (said .1 .1) (back .0) (back .1 .0) (back .1 .1)
 
 pub solkverva-message-spec : {M : Type 1} → statement M
 solkverva-message-spec =
@@ -44,7 +44,7 @@ solkverva-message-spec =
     (tie.spec
     settings-from-requires
     remembered-from-requires
-    message-from-bytes-requires
+    perform-bytes-requires
     hand-back-requires
     same-length
     same-length-2

@@ -13,8 +13,8 @@ remembered-from-requires c κs = search needs
 value-from-requires : tie.Need-value-from-requires
 value-from-requires c κs = search needs
 
-message-from-value-requires : tie.Need-message-from-value-requires
-message-from-value-requires c κs = search needs
+perform-value-requires : tie.Need-perform-value-requires
+perform-value-requires c κs = search needs
 
 hand-back-requires : tie.Need-hand-back-requires
 hand-back-requires c κs = search needs
@@ -38,9 +38,9 @@ returns c =
     let v = served .before .before .before .value-from .ensures in
     let m = served .before .before .before .before .remembered-from .ensures in
     let s = served .before .before .before .before .before .before .settings-from .ensures in
-    let said = rw (s, m, v) at (served .message-from-value .ensures) in
+    let said = rw (s, m, v) at (served .perform-value .ensures) in
     let back = put .hand-back .ensures in
-    called _ _ _ _ _ _ _ _ _ _ (said .0) (said .1) (back .0) (back .1 .0) (back .1 .1)
+    called _ _ _ _ _ _ _ _ _ (said .0) (said .1 .0) (said .1 .1) (back .0) (back .1 .0) (back .1 .1)
 
 pub solkverva-message-value-spec : {M : Type 1} → statement M
 solkverva-message-value-spec =
@@ -49,7 +49,7 @@ solkverva-message-value-spec =
     settings-from-requires
     remembered-from-requires
     value-from-requires
-    message-from-value-requires
+    perform-value-requires
     hand-back-requires
     same-length
     same-length-2

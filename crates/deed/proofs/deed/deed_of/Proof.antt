@@ -5,11 +5,20 @@ use Rattle.deed.proofs.Clean.{not-odd}
 use Rattle.deed.proofs.deed.deed_of.Statement.{statement}
 use Rattle.deed.proofs.deed.deed_of.Tie as tie
 
-is-odd-requires : tie.Need-is-odd-requires
-is-odd-requires c κs = search needs
+cast-no : tie.Need-cast-no
+cast-no c = search needs
+
+expected-words-requires : tie.Need-expected-words-requires
+expected-words-requires c κs = search needs
 
 no-requires : tie.Need-no-requires
 no-requires c κs = search needs
+
+is-odd-requires : tie.Need-is-odd-requires
+is-odd-requires c κs = search needs
+
+no-requires-2 : tie.Need-no-requires-2
+no-requires-2 c κs = search needs
 
 clean-act-requires : tie.Need-clean-act-requires
 clean-act-requires c κs = search needs
@@ -26,8 +35,11 @@ returns c =
     let begun = c .before .before .before in
     let asked = begun .before in
     let odd = asked .before in
-    let a = odd .before .args in
-    let clean = not-odd (a .s) (a .t) (a .v) _ (odd .is-odd .ensures) _ (asked .no .ensures) (begun .if1 .taken) in
+    let wrong = odd .before in
+    let expected = wrong .before in
+    let a = expected .before .before .args in
+    let told = rw (wrong .no .ensures, expected .expected-words .ensures) at (odd .is-odd .ensures) in
+    let clean = not-odd (a .s) (a .t) (a .v) _ told _ (asked .no2 .ensures) (begun .if1 .taken) in
     rw (
       c .deed-with .ensures,
       c .before .motion-of .ensures,
@@ -52,8 +64,11 @@ pub deed-of-spec : {M : Type 1} → statement M
 deed-of-spec =
     tie.close
     (tie.spec
-    is-odd-requires
+    cast-no
+    expected-words-requires
     no-requires
+    is-odd-requires
+    no-requires-2
     clean-act-requires
     motion-of-requires
     deed-with-requires

@@ -7,15 +7,6 @@ use Rattle.deed.proofs.deed.is_odd.Tie as tie
 either-requires : tie.Need-either-requires
 either-requires c κs = search needs
 
-cast-no : tie.Need-cast-no
-cast-no c = search needs
-
-expected-words-requires : tie.Need-expected-words-requires
-expected-words-requires c κs = search needs
-
-no-requires : tie.Need-no-requires
-no-requires c κs = search needs
-
 either-requires-2 : tie.Need-either-requires-2
 either-requires-2 c κs = search needs
 
@@ -32,20 +23,9 @@ returns c =
       c .either4 .ensures,
       c .before .either3 .ensures,
       c .before .before .either2 .ensures,
-      c .before .before .before .no .ensures,
-      c .before .before .before .before .expected-words .ensures,
-      c .before .before .before .before .before .before .before .either .ensures,
+      c .before .before .before .either .ensures,
     )
 
 pub is-odd-spec : {M : Type 1} → statement M
 is-odd-spec =
-    tie.close
-    (tie.spec
-    either-requires
-    cast-no
-    expected-words-requires
-    no-requires
-    either-requires-2
-    either-requires-3
-    either-requires-4
-    returns)
+    tie.close (tie.spec either-requires either-requires-2 either-requires-3 either-requires-4 returns)

@@ -1,13 +1,10 @@
-use native.Mathlib.Omega.{arith}
+-- `hand_back` meets its contract: case by case, what the callees put.
 use borrow.Author.Needs.{needs}
+use Rattle.message.specs.Answer.{refusedWith, acceptedWith}
+use Rattle.message.specs.Performed.{answerIn}
+use Rattle.lent_messages.specs.Answers.{rememberedOver}
 use Rattle.lent_messages.proofs.answers.hand_back.Statement.{statement}
 use Rattle.lent_messages.proofs.answers.hand_back.Tie as tie
-use Rattle.lent_messages.proofs.answers.hand_back.Reads as reads
-use Rattle.lent_messages.proofs.answers.hand_back.Lts as lts
-use Rattle.lent.proofs.setup.put_remembered.Reads as put-remembered-reads
-use Rattle.lent_messages.proofs.answers.put_answer.Reads as put-answer-reads
-use Rattle.lent_messages.proofs.answers.put_refusal.Reads as put-refusal-reads
-use Rattle.message.proofs.answer.accepted_with.Reads as accepted-with-reads
 
 enum-known-performed : tie.Need-enum-known-performed
 enum-known-performed c = search needs
@@ -31,7 +28,11 @@ same-length : tie.Need-same-length
 same-length c = search needs
 
 returns : tie.Need-returns
-returns c = search needs
+unfolding answerIn rememberedOver refusedWith
+returns c =
+    let put = c .before .before in
+    let e = put .before .before .before .performed .given .1 in
+    (rw e, (rw e, rw e (put .put-refusal .ensures)))
 
 same-length-2 : tie.Need-same-length-2
 same-length-2 c = search needs
@@ -40,7 +41,13 @@ same-length-3 : tie.Need-same-length-3
 same-length-3 c = search needs
 
 returns-2 : tie.Need-returns-2
-returns-2 c = search needs
+unfolding answerIn rememberedOver acceptedWith
+returns-2 c =
+    let put = c .before .before in
+    let told = put .before in
+    let kept = told .before .before .before .before in
+    let e = kept .before .before .before .performed2 .given .1 in
+    (rw e, (rw e (kept .put-remembered .ensures), rw (e, ← (told .accepted-with .ensures)) (put .put-answer .ensures)))
 
 pub hand-back-spec : {M : Type 1} → statement M
 hand-back-spec =

@@ -1,11 +1,11 @@
-use native.Mathlib.Omega.{arith}
+-- `put_refusal` meets its contract: nine words in a row.
 use borrow.Author.Needs.{needs}
+use Rattle.words.specs.Bits.{bitOf}
+use Rattle.message.specs.Answer.{refusedWith}
+use Rattle.lent.proofs.Order.{nine-back}
+use Rattle.lent_messages.specs.Answers.{answerWords}
 use Rattle.lent_messages.proofs.answers.put_refusal.Statement.{statement}
 use Rattle.lent_messages.proofs.answers.put_refusal.Tie as tie
-use Rattle.lent_messages.proofs.answers.put_refusal.Reads as reads
-use Rattle.lent_messages.proofs.answers.put_refusal.Lts as lts
-use Rattle.lent.proofs.over.put_four.Reads as put-four-reads
-use Rattle.memory.proofs.ram.put.Reads as put-reads
 
 put-requires : tie.Need-put-requires
 put-requires c κs = search needs
@@ -20,7 +20,14 @@ same-length : tie.Need-same-length
 same-length c = search needs
 
 returns : tie.Need-returns
-returns c = search needs
+unfolding answerWords refusedWith
+returns c =
+    rw (
+      nine-back,
+      c .before .before .put-four2 .ensures,
+      c .before .before .before .before .before .before .put-four .ensures,
+      c .before .before .before .before .before .before .before .before .before .before .put .ensures,
+    )
 
 pub put-refusal-spec : {M : Type 1} → statement M
 put-refusal-spec =
