@@ -8,8 +8,5 @@ use Rattle.acts.proofs.motion
 pub act-of-settled : Settled 0 act.act_of.Kinds.ps act.act_of.Kinds.r act.act_of.Reads.Post
 act-of-settled κs a x y v w p q = (determined p q, refl)
 
-pub act-with-settled : Settled 0 act.act_with.Kinds.ps act.act_with.Kinds.r act.act_with.Reads.Post
-act-with-settled κs a x y v w p q = (determined p q, refl)
-
 pub motion-of-settled : Settled 0 motion.motion_of.Kinds.ps motion.motion_of.Kinds.r motion.motion_of.Reads.Post
 motion-of-settled κs a x y v w p q = (determined p q, refl)

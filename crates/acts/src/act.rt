@@ -50,7 +50,7 @@ fn words_sent(t: Target, valid: bool, command: u16) -> u16
     pick(sends, command::word_count(command), 0)
 }
 
-pub fn act_with(s: Settings, t: Target, v: Record, faults: Faults, valid: bool) -> Act
+fn act_with(s: Settings, t: Target, v: Record, faults: Faults, valid: bool) -> Act
     ensures { λ r. ⌜ r ≡ actWith s t v faults valid ⌝ }
 {
     let stored = words_stored(s, t, v);

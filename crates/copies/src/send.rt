@@ -22,11 +22,14 @@ fn send_each(ram: &[u16], reply: &mut [u16], w: Window, n: u16)
     }
 }
 
-// The words sent, read as they are stored: in two runs, where all of them lie in RAM and there is room for them.
+// The words sent, read as they are stored: a single word by itself, and else in two runs, where all of them lie in RAM and
+// there is room for them.
 pub fn send_words(ram: &[u16], reply: &mut [u16], w: Window, n: u16)
     ensures { λ r. ⌜ now (reply .exit) ≡ applyWrites (sentWrites (now (ram .entry)) w n) (now (reply .entry)) ⌝ }
 {
-    if both(goes_once(w, ram.len(), n), (n as usize) < reply.len()) {
+    if n == 1 {
+        put(reply, 1, word_at(ram, place(w, 0)));
+    } else if both(goes_once(w, ram.len(), n), (n as usize) < reply.len()) {
         let r = runs_of(w, n);
         copy_run(reply, 1, ram, r.pointer, r.first);
         copy_run(reply, 1 + r.first, ram, r.start, r.rest);

@@ -22,8 +22,8 @@ fn store_each(ram: &mut [u16], w: Window, words: &[u16], n: u16)
     }
 }
 
-// The stored words, from the pointer on, wrapping inside the window: in two runs, where all of them lie in RAM. A single
-// word, which is what most status-like messages have, needs no run: a run is copied by a call.
+// The stored words, from the pointer on, wrapping inside the window: a single word by itself, since a run is copied by a
+// call, and else in two runs, where all of them lie in RAM.
 pub fn store_words(ram: &mut [u16], w: Window, words: &[u16], n: u16)
     ensures { λ r. ⌜ now (ram .exit) ≡ applyWrites (dataWrites w (now (words .entry)) n) (now (ram .entry)) ⌝ }
 {

@@ -17,6 +17,7 @@ use spans::numbered::cell_numbered;
 use spans::numbered::is_read;
 use spans::numbered::kind_numbered;
 use spans::numbered::read_end;
+use spans::span::Places;
 use spans::span::read_spans;
 use words::choose::both;
 use words::number::UNSOUND_CELL;
@@ -59,7 +60,7 @@ fn no_sharers(number: u16) -> CellLabel
 }
 
 // The cells below `end` whose windows meet that of one cell, which has a window.
-fn list_meeting(starts: &[u32; 96], ends: &[u32; 96], end: u16, cell: u16) -> CellLabel
+fn list_meeting(starts: &Places, ends: &Places, end: u16, cell: u16) -> CellLabel
     requires { ⌜ ((cell < 96) × (end ≤ 96)) × (length (passing (otherMeets (now starts) (now ends) cell) end) ≤ 89) ⌝ }
     ensures { λ r. ⌜ r ≡ cellAnswer 0 (passing (otherMeets (now (starts .entry)) (now (ends .entry)) cell) end) ⌝ }
 {

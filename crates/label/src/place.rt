@@ -2,10 +2,11 @@
 ghost use mathlib.Core.Path.{_≡_};
 ghost use Prim.Native.Nat.{_<_};
 ghost use Rattle.spans.specs.Span.{spanAt, spansMeet};
+use spans::span::Places;
 use spans::span::Span;
 use spans::span::spans_meet;
 
-pub(crate) fn span_at(starts: &[u32; 96], ends: &[u32; 96], number: u16) -> Span
+pub(crate) fn span_at(starts: &Places, ends: &Places, number: u16) -> Span
     requires { ⌜ number < 96 ⌝ }
     ensures { λ r. ⌜ r ≡ spanAt (now (starts .entry)) (now (ends .entry)) number ⌝ }
 {
@@ -16,7 +17,7 @@ pub(crate) fn span_at(starts: &[u32; 96], ends: &[u32; 96], number: u16) -> Span
 }
 
 // The cell at this place meets the span that is given.
-pub(crate) fn meets_at(own: Span, starts: &[u32; 96], ends: &[u32; 96], number: u16) -> bool
+pub(crate) fn meets_at(own: Span, starts: &Places, ends: &Places, number: u16) -> bool
     requires { ⌜ number < 96 ⌝ }
     ensures { λ r. ⌜ r ≡ spansMeet own (spanAt (now (starts .entry)) (now (ends .entry)) number) ⌝ }
 {

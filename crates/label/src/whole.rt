@@ -13,6 +13,7 @@ use area::area::ground_refusal;
 use memory::ram::put;
 use spans::numbered::is_read;
 use spans::numbered::read_end;
+use spans::span::Places;
 use spans::span::read_spans;
 use words::choose::both;
 use words::settings::Settings;
@@ -28,8 +29,8 @@ pub struct AreaLabel {
 // The pairs of which this cell is the lower, from the place `used` on. Answers the place after them. A cell that takes
 // no part has none.
 fn put_pairs_with(
-    starts: &[u32; 96],
-    ends: &[u32; 96],
+    starts: &Places,
+    ends: &Places,
     end: u16,
     lower: u16,
     pairs: &mut [u16],
@@ -56,7 +57,7 @@ fn put_pairs_with(
 }
 
 // All pairs of the cells below `end`, by rising lower number. Answers how many there are.
-fn put_pairs(starts: &[u32; 96], ends: &[u32; 96], end: u16, pairs: &mut [u16]) -> usize
+fn put_pairs(starts: &Places, ends: &Places, end: u16, pairs: &mut [u16]) -> usize
     requires { ⌜ end ≤ 96 ⌝ }
     ensures words { λ r. ⌜ now (pairs .exit) ≡ sets (now (pairs .entry)) 0 (pairWords (pairsBelow (placesMeet (now (starts .entry)) (now (ends .entry))) end end)) ⌝ }
     ensures count { λ r. ⌜ r ≡ length (pairsBelow (placesMeet (now (starts .entry)) (now (ends .entry))) end end) ⌝ }
@@ -83,7 +84,7 @@ fn none_unsound(number: u16, pairs: u16) -> AreaLabel
 }
 
 // The cells that are read and have no span: those that are unsound.
-fn list_unsound(s: Settings, ends: &[u32; 96], pairs: u16) -> AreaLabel
+fn list_unsound(s: Settings, ends: &Places, pairs: u16) -> AreaLabel
     ensures { λ r. ⌜ r ≡ areaAnswer 0 (passing (readInVain s (now (ends .entry))) 96) pairs ⌝ }
 {
     let mut unsound = [0u16; 90];
