@@ -22,7 +22,7 @@ answerWords a =
     ∷ a .interrupt
     ∷ []
 
--- put over what is lent; of a refusal, ".. remembered state keep[s its] contents"
+-- put over what is lent; of a refusal nothing: "RAM, reply and remembered state keep their contents"
 unfoldable pub rememberedOver : Performed → List ℕ → List ℕ
 rememberedOver (Refused number) xs = xs
 rememberedOver (Done p m) xs = over xs (rememberedWords m)
