@@ -135,13 +135,23 @@ module _ (ram : List ℕ) (s : Settings) where
       and-both (dataNumber k) _ (part-data k (f .other-part)) (rw (ne-eqb k cell (f .different)))) 96 in
       omega (arith, ninety)
 
-  pub meeting-most : (cell : ℕ) → length (meetingCells ram s cell) ≤ 89
+  -- a cell that takes no part meets none
+  apart-meets-none : (cell : ℕ) → takesPart ram s cell ≡ false → meetingCells ram s cell ≡ []
   unfolding meetingCells cellsMeet
+  apart-meets-none cell e = passing-none (cellsMeet ram s cell) 96 (λ k l. rw e)
+
+  -- and so a number that is no cell's
+  pub past-meets-none : (cell : ℕ) → 96 ≤ cell → meetingCells ram s cell ≡ []
+  past-meets-none cell h =
+      ⊎-elim
+      (λ (e : takesPart ram s cell ≡ true). absurd (omega (arith, h, part-below ram s cell e)))
+      (apart-meets-none cell)
+      (yes-or-no (takesPart ram s cell))
+
+  pub meeting-most : (cell : ℕ) → length (meetingCells ram s cell) ≤ 89
   meeting-most cell =
       ⊎-elim (part-most cell)
-      (λ (e : takesPart ram s cell ≡ false).
-      let none : passing (cellsMeet ram s cell) 96 ≡ [] = passing-none (cellsMeet ram s cell) 96 (λ k l. rw e) in
-      rw none (omega arith))
+      (λ (e : takesPart ram s cell ≡ false). rw (apart-meets-none cell e) (omega arith))
       (yes-or-no (takesPart ram s cell))
 
   pub meeting-pairs-most : length (meetingPairs ram s) ≤ 4005

@@ -1,12 +1,11 @@
 // The label of one cell: every other cell whose window meets its window.
 ghost use mathlib.Core.Path.{_≡_};
 ghost use mathlib.Core.List.{[]};
-ghost use mathlib.Core.Bool.{true};
 ghost use Prim.Native.Nat.{_<_, _≤_};
 ghost use lib.ListN.{length};
 ghost use Rattle.label.specs.Listing.{passing};
 ghost use Rattle.spans.specs.Span.{otherMeets};
-ghost use Rattle.label.specs.Label.{takesPart, sharerNumbered, meetingCells, cellAnswer, cellLabel};
+ghost use Rattle.label.specs.Label.{takesPart, sharerNumbered, meetingCells, cellAnswer, cellLabel, cellRefusal};
 use crate::place::meets_at;
 use crate::place::span_at;
 use area::area::ground_refusal;
@@ -85,11 +84,13 @@ fn list_meeting(starts: &Places, ends: &Places, end: u16, cell: u16) -> CellLabe
     }
 }
 
-// The listing of a cell that takes part.
-fn list_sharers(ram: &[u16], s: Settings, cell: u16) -> CellLabel
-    requires { ⌜ takesPart (now ram) s cell ≡ true ⌝ }
+// The listing of a cell; of one that takes no part, none.
+pub fn list_sharers(ram: &[u16], s: Settings, cell: u16) -> CellLabel
     ensures { λ r. ⌜ r ≡ cellAnswer 0 (meetingCells (now (ram .entry)) s cell) ⌝ }
 {
+    if 96 <= cell {
+        return no_sharers(0);
+    }
     let mut starts = [0u32; 96];
     let mut ends = [0u32; 96];
     read_spans(ram, s, &mut starts, &mut ends);
@@ -105,16 +106,27 @@ fn takes_part(ram: &[u16], s: Settings, cell: u16) -> bool
     both(is_read(s, cell), sound_cell(ram.len(), stack, c))
 }
 
-// Refused with the first of 1, 3 and 8, then with 9 for a cell that takes no part.
-pub fn label_cell(ram: &[u16], s: Settings, cell: u16) -> CellLabel
-    ensures { λ r. ⌜ r ≡ cellLabel (now (ram .entry)) s cell ⌝ }
+// The first of 1, 3 and 8, then 9 for a cell that takes no part.
+pub fn cell_refusal(ram: &[u16], s: Settings, cell: u16) -> u16
+    ensures { λ r. ⌜ r ≡ cellRefusal (now (ram .entry)) s cell ⌝ }
 {
     let number = ground_refusal(ram, s);
     if number != 0 {
-        return no_sharers(number);
+        return number;
     }
     if takes_part(ram, s, cell) {
-        return list_sharers(ram, s, cell);
+        return 0;
     }
-    no_sharers(UNSOUND_CELL)
+    UNSOUND_CELL
+}
+
+// Who has no use for the listing of a refusal asks for the two parts.
+pub fn label_cell(ram: &[u16], s: Settings, cell: u16) -> CellLabel
+    ensures { λ r. ⌜ r ≡ cellLabel (now (ram .entry)) s cell ⌝ }
+{
+    let number = cell_refusal(ram, s, cell);
+    if number != 0 {
+        return no_sharers(number);
+    }
+    list_sharers(ram, s, cell)
 }
