@@ -16,6 +16,9 @@ put-listing-settled κs a x y v w p q = (refl, λ i. (determined p q i, v .1))
 pub put-cells-settled : Settled 1 labels.put_cells.Kinds.ps labels.put_cells.Kinds.r labels.put_cells.Reads.Post
 put-cells-settled κs a x y v w p q = (refl, λ i. (determined p q i, v .1))
 
+pub put-no-listing-settled : Settled 1 labels.put_no_listing.Kinds.ps labels.put_no_listing.Kinds.r labels.put_no_listing.Reads.Post
+put-no-listing-settled κs a x y v w p q = (refl, λ i. (determined p q i, v .1))
+
 pub put-counts-settled : Settled 1 labels.put_counts.Kinds.ps labels.put_counts.Kinds.r labels.put_counts.Reads.Post
 put-counts-settled κs a x y v w p q = (refl, λ i. (determined p q i, v .1))
 
