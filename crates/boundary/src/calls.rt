@@ -10,7 +10,8 @@ ghost use Rattle.lent_areas.specs.Check.{checkWord};
 ghost use Rattle.lent_messages.specs.Values.{valueFrom, valueWords};
 ghost use Rattle.lent_areas.specs.Labels.{listingWords, countWords};
 use area::area::check_area;
-use label::one::label_cell;
+use label::one::cell_refusal;
+use label::one::list_sharers;
 use label::whole::label_area;
 use layout::reader::read;
 use layout::writer::write;
@@ -20,6 +21,7 @@ use lent_areas::checks::check_word;
 use lent_areas::labels::put_cells;
 use lent_areas::labels::put_counts;
 use lent_areas::labels::put_listing;
+use lent_areas::labels::put_no_listing;
 use lent_messages::values::put_value;
 use lent_messages::values::value_from;
 
@@ -66,9 +68,15 @@ pub extern "C" fn solkverva_label_cell(
     ensures number { λ r. ⌜ r ≡ cellLabel (now (ram .entry)) (settingsFrom (now (settings .entry))) cell .number ⌝ }
     ensures listing { λ r. ⌜ now (listing .exit) ≡ over (now (listing .entry)) (listingWords (cellLabel (now (ram .entry)) (settingsFrom (now (settings .entry))) cell)) ⌝ }
 {
-    let label = label_cell(ram, settings_from(settings), cell);
+    let s = settings_from(settings);
+    let number = cell_refusal(ram, s, cell);
+    if number != 0 {
+        put_no_listing(listing);
+        return number;
+    }
+    let label = list_sharers(ram, s, cell);
     put_listing(listing, label);
-    label.number
+    0
 }
 
 // The label of the whole area: how many cells are unsound and how many pairs there are, the unsound cells, and the
