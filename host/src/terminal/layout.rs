@@ -4,7 +4,8 @@ use super::planted::{
     COUNT_WITH_TRANSFER_FAULT, NONE, TRANSFER_ON_TRANSMIT, UNMARKED_TRANSMIT_COMMAND,
 };
 use super::records::{
-    taken_apart, Record, RECORD_BYTES, TOO_MANY, TRANSFER_FAULTS, UNUSED_FLAGS, ZERO_BYTES,
+    taken_apart, Record, RECORD_BYTES, RECORD_WORDS, TOO_MANY, TRANSFER_FAULTS, UNUSED_FLAGS,
+    ZERO_BYTES,
 };
 use super::words::Command;
 
@@ -31,7 +32,8 @@ pub enum Rule {
 /// The rules about a record's value, each with whether it is kept.
 #[inline(always)]
 pub(super) fn rules<const PLANTED: u8>(record: &Record) -> [(Rule, bool); 7] {
-    let words_after = &record.words[record.words_held()..];
+    let held = record.words_held();
+    let zero_after = record.words[held..] == [0; RECORD_WORDS][held..];
     let transfer = record.is_transfer();
     let fault = record.has_flag(TRANSFER_FAULTS);
     let receives = !transfer || !Command(record.command).is_transmit();
@@ -40,7 +42,7 @@ pub(super) fn rules<const PLANTED: u8>(record: &Record) -> [(Rule, bool); 7] {
     [
         (Rule::Flags, !record.has_flag(UNUSED_FLAGS)),
         (Rule::Count, record.count <= TOO_MANY),
-        (Rule::WordsAfter, words_after.iter().all(|&word| word == 0)),
+        (Rule::WordsAfter, zero_after),
         (
             Rule::TransferReceives,
             receives || PLANTED == TRANSFER_ON_TRANSMIT,
