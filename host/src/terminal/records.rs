@@ -94,7 +94,7 @@ pub fn read_record_planted(planted: Planted, bytes: &[u8]) -> Result<Record, u16
 
 pub(super) fn read_record_with<const PLANTED: u8>(bytes: &[u8]) -> Result<Record, u16> {
     let bytes: &[u8; RECORD_BYTES] = bytes.try_into().map_err(|_| refusal::RECORD_LENGTH)?;
-    if bytes[ZERO_BYTES].iter().any(|&byte| byte != 0) {
+    if bytes[ZERO_BYTES] != [0; 8] {
         return Err(refusal::RECORD_LAYOUT);
     }
     let record = taken_apart(bytes);
@@ -114,7 +114,7 @@ pub(super) fn taken_apart(bytes: &[u8; RECORD_BYTES]) -> Record {
         words: [0; RECORD_WORDS],
     };
     for (word, pair) in record.words.iter_mut().zip(data.chunks_exact(2)) {
-        *word = u16::from_be_bytes([pair[0], pair[1]]);
+        *word = u16::from_be_bytes(pair.try_into().expect("two bytes"));
     }
     record
 }
