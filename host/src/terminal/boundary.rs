@@ -176,26 +176,32 @@ fn put<T: Copy>(slice: &mut [T], items: &[T]) {
     slice[..room].copy_from_slice(&items[..room]);
 }
 
-fn word_at(words: &[u16], place: usize) -> u16 {
-    words.get(place).copied().unwrap_or(0)
+/// The words at the front of a slice; those that it lacks are 0.
+fn front<const LENGTH: usize>(words: &[u16]) -> [u16; LENGTH] {
+    let mut front = [0; LENGTH];
+    match words.get(..LENGTH) {
+        Some(words) => front.copy_from_slice(words),
+        None => front[..words.len()].copy_from_slice(words),
+    }
+    front
 }
 
 fn settings_of(words: &[u16]) -> Settings {
-    let yes = |place| word_at(words, place) != 0;
+    let words: [u16; SETTINGS_WORDS] = front(words);
     Settings {
-        address: word_at(words, 0),
-        area_b: yes(1),
-        stack_size: word_at(words, 2),
-        overwrite_invalid: yes(3),
-        separate_broadcast: yes(4),
-        illegal_receive_disable: yes(5),
-        busy_receive_disable: yes(6),
-        busy_always: yes(7),
-        service_request: yes(8),
-        subsystem_flag: yes(9),
-        terminal_flag: yes(10),
+        address: words[0],
+        area_b: words[1] != 0,
+        stack_size: words[2],
+        overwrite_invalid: words[3] != 0,
+        separate_broadcast: words[4] != 0,
+        illegal_receive_disable: words[5] != 0,
+        busy_receive_disable: words[6] != 0,
+        busy_always: words[7] != 0,
+        service_request: words[8] != 0,
+        subsystem_flag: words[9] != 0,
+        terminal_flag: words[10] != 0,
         // Says that it is off, so that eleven words mean on.
-        broadcast: !yes(11),
+        broadcast: words[11] == 0,
     }
 }
 
@@ -217,10 +223,8 @@ pub fn settings_words(settings: &Settings) -> [u16; SETTINGS_WORDS] {
 }
 
 pub fn remembered_of(words: &[u16]) -> Remembered {
-    Remembered {
-        command: word_at(words, 0),
-        status: word_at(words, 1),
-    }
+    let [command, status] = front(words);
+    Remembered { command, status }
 }
 
 pub fn remembered_words(remembered: Remembered) -> [u16; REMEMBERED_WORDS] {
@@ -229,17 +233,14 @@ pub fn remembered_words(remembered: Remembered) -> [u16; REMEMBERED_WORDS] {
 
 /// Flags and count are bytes in a record: a larger word is as wrong as 255.
 pub fn record_of(value: &[u16]) -> Record {
-    let mut words = [0; RECORD_WORDS];
-    if let Some(data) = value.get(HEAD_WORDS..) {
-        put(&mut words, data);
-    }
+    let value: [u16; VALUE_WORDS] = front(value);
     Record {
-        command: word_at(value, 0),
-        transmit_command: word_at(value, TRANSMIT_COMMAND),
-        tag: word_at(value, 1),
-        flags: word_at(value, 2).min(0xFF),
-        count: word_at(value, 3).min(0xFF),
-        words,
+        command: value[0],
+        transmit_command: value[TRANSMIT_COMMAND],
+        tag: value[1],
+        flags: value[2].min(0xFF),
+        count: value[3].min(0xFF),
+        words: front(&value[HEAD_WORDS..]),
     }
 }
 
@@ -253,16 +254,17 @@ pub fn value_words(record: &Record) -> [u16; VALUE_WORDS] {
 }
 
 pub fn answer_of(words: &[u16]) -> Answer {
+    let words: [u16; ANSWER_WORDS] = front(words);
     Answer {
-        number: word_at(words, 0),
-        block_status: word_at(words, 1),
-        cell: word_at(words, 2),
-        pointer_before: word_at(words, 3),
-        pointer_after: word_at(words, 4),
-        status: word_at(words, 5),
-        answered: word_at(words, 6) != 0,
-        sent: word_at(words, 7),
-        interrupt: word_at(words, 8),
+        number: words[0],
+        block_status: words[1],
+        cell: words[2],
+        pointer_before: words[3],
+        pointer_after: words[4],
+        status: words[5],
+        answered: words[6] != 0,
+        sent: words[7],
+        interrupt: words[8],
     }
 }
 
