@@ -3,8 +3,7 @@
 use std::ops::Range;
 
 use super::cells::{
-    check_ram, lookup_place, stack_pointer_place, Cell, Kind, Scheme, Stack, DESCRIPTOR_WORDS,
-    RAM_WORDS,
+    lookup_place, stack_pointer_place, Cell, Kind, Scheme, Stack, DESCRIPTOR_WORDS, RAM_WORDS,
 };
 use super::faults::Faults;
 use super::planted::{
@@ -77,8 +76,9 @@ pub fn carry_out_planted(
     )
 }
 
-/// [`carry_out_planted`] with the error as a constant. Inlined, so that a
-/// caller who knows how the message comes does not ask again.
+/// [`carry_out_planted`] with the error as a constant. Inlined with what it
+/// calls, so that a caller who knows how the message comes does not ask again,
+/// and no step hands its results on through memory.
 #[inline(always)]
 pub(super) fn carry_out_with<const PLANTED: u8>(
     ram: &mut [u16],
@@ -87,31 +87,7 @@ pub(super) fn carry_out_with<const PLANTED: u8>(
     remembered: Remembered,
     message: MessageRef,
 ) -> (Answer, Remembered) {
-    let lent = check_lent(ram, reply, settings);
-    let outcome = match message {
-        MessageRef::Bytes(bytes) => lent
-            .and_then(|()| read_record_with::<PLANTED>(bytes))
-            .and_then(|record| perform::<PLANTED>(ram, reply, settings, &record)),
-        MessageRef::Value(record) => lent
-            .and_then(|()| record.check::<PLANTED>())
-            .and_then(|()| perform::<PLANTED>(ram, reply, settings, record)),
-    };
-    settle(outcome, remembered)
-}
-
-/// Tests 1 to 3, about what the caller lends.
-fn check_lent(ram: &[u16], reply: &[u16], settings: &Settings) -> Result<(), u16> {
-    check_ram(ram)?;
-    if reply.len() < REPLY_WORDS {
-        return Err(refusal::REPLY_LENGTH);
-    }
-    settings.check()
-}
-
-fn settle(
-    outcome: Result<(Answer, Remembered), u16>,
-    remembered: Remembered,
-) -> (Answer, Remembered) {
+    let outcome = accept::<PLANTED>(ram, reply, settings, message);
     outcome.unwrap_or_else(|number| {
         let refused = Answer {
             number,
@@ -121,9 +97,35 @@ fn settle(
     })
 }
 
-/// Tests 6 to 9, and then the message itself.
-fn perform<const PLANTED: u8>(
+/// Tests 1 to 5, about what the caller lends and the record, then the others.
+#[inline(always)]
+fn accept<const PLANTED: u8>(
     ram: &mut [u16],
+    reply: &mut [u16],
+    settings: &Settings,
+    message: MessageRef,
+) -> Result<(Answer, Remembered), u16> {
+    let ram = ram.try_into().map_err(|_| refusal::RAM_LENGTH)?;
+    let reply = reply.get_mut(..REPLY_WORDS).ok_or(refusal::REPLY_LENGTH)?;
+    settings.check()?;
+    let read;
+    let record = match message {
+        MessageRef::Bytes(bytes) => {
+            read = read_record_with::<PLANTED>(bytes)?;
+            &read
+        }
+        MessageRef::Value(record) => {
+            record.check::<PLANTED>()?;
+            record
+        }
+    };
+    perform::<PLANTED>(ram, reply, settings, record)
+}
+
+/// Tests 6 to 9, and then the message itself.
+#[inline(always)]
+fn perform<const PLANTED: u8>(
+    ram: &mut [u16; RAM_WORDS],
     reply: &mut [u16],
     settings: &Settings,
     record: &Record,
@@ -132,14 +134,14 @@ fn perform<const PLANTED: u8>(
     let (stack, cell) = locate(ram, settings, command)?;
     let judged = Judged::new::<PLANTED>(ram, settings, record);
     let status = status_word(&judged, settings);
-    let answered = judged.is_valid() && !judged.broadcast;
+    let answered = judged.valid && !judged.broadcast;
     if answered {
         reply[0] = status;
     }
 
     let moved = move_words::<PLANTED>(ram, reply, settings, record, &judged, &cell);
-    let valid = judged.is_valid();
-    let (pointer_after, rollover) = move_pointer::<PLANTED>(ram, settings, &cell, moved, valid);
+    let (pointer_after, rollover) =
+        move_pointer::<PLANTED>(ram, settings, &cell, moved, judged.valid);
     let block_status = block_status::<PLANTED>(&judged, record, rollover);
     let descriptor = descriptor::<PLANTED>(block_status, record, cell.pointer, pointer_after);
     let stack_wrapped = push_descriptor(ram, settings, &stack, &descriptor);
@@ -163,6 +165,7 @@ fn perform<const PLANTED: u8>(
 }
 
 /// Tests 6 to 9: the stack and the cell that a message would use.
+#[inline(always)]
 pub(super) fn locate(
     ram: &[u16],
     settings: &Settings,
@@ -210,11 +213,13 @@ pub(super) struct Judged {
     word_count: u16,
     broadcast: bool,
     faults: Faults,
+    pub(super) valid: bool,
     illegal: bool,
     busy: bool,
 }
 
 impl Judged {
+    #[inline(always)]
     pub(super) fn new<const PLANTED: u8>(
         ram: &[u16],
         settings: &Settings,
@@ -227,18 +232,16 @@ impl Judged {
             command.word_count()
         };
         let broadcast = settings.is_broadcast(command);
+        let faults = Faults::of::<PLANTED>(record, word_count, broadcast);
         Judged {
             command,
             word_count,
             broadcast,
-            faults: Faults::of::<PLANTED>(record, word_count, broadcast),
+            valid: !faults.any(),
+            faults,
             illegal: is_illegal(ram, settings, command),
             busy: settings.busy_always || is_marked_busy(ram, settings, command),
         }
-    }
-
-    pub(super) fn is_valid(&self) -> bool {
-        !self.faults.any()
     }
 
     /// Rule 3.
@@ -249,7 +252,7 @@ impl Judged {
     ) -> u16 {
         let disabled = (self.illegal && settings.illegal_receive_disable)
             || (self.busy && settings.busy_receive_disable);
-        let let_through = PLANTED == FAULTY_STORES_WHEN_DISABLED && !self.is_valid();
+        let let_through = PLANTED == FAULTY_STORES_WHEN_DISABLED && !self.valid;
         if disabled && !let_through {
             0
         } else {
@@ -259,7 +262,7 @@ impl Judged {
 
     /// Rule 4.
     pub(super) fn words_to_send(&self) -> u16 {
-        if self.is_valid() && !self.illegal && !self.busy {
+        if self.valid && !self.illegal && !self.busy {
             self.word_count
         } else {
             0
@@ -278,11 +281,13 @@ fn move_words<const PLANTED: u8>(
 ) -> u16 {
     if judged.command.is_transmit() {
         let count = judged.words_to_send();
-        send(ram, reply, runs::<PLANTED>(cell, count));
+        let words = &mut reply[1..=usize::from(count)];
+        send(ram, words, runs::<PLANTED>(cell, count));
         count
     } else {
         let count = judged.words_to_store::<PLANTED>(settings, record);
-        store(ram, record, runs::<PLANTED>(cell, count));
+        let words = &record.words[..usize::from(count)];
+        store(ram, words, runs::<PLANTED>(cell, count));
         count
     }
 }
@@ -306,18 +311,22 @@ pub(super) fn runs<const PLANTED: u8>(cell: &Cell, count: u16) -> [Range<usize>;
     ]
 }
 
-fn store(ram: &mut [u16], record: &Record, [first, second]: [Range<usize>; 2]) {
-    let (before_end, wrapped) = record.words.split_at(first.len());
-    let wrapped = &wrapped[..second.len()];
+#[inline(always)]
+fn store(ram: &mut [u16], words: &[u16], [first, second]: [Range<usize>; 2]) {
+    let (before_end, wrapped) = words.split_at(first.len());
     ram[first].copy_from_slice(before_end);
-    ram[second].copy_from_slice(wrapped);
+    if !wrapped.is_empty() {
+        ram[second].copy_from_slice(wrapped);
+    }
 }
 
-fn send(ram: &[u16], reply: &mut [u16], [first, second]: [Range<usize>; 2]) {
-    let (before_end, wrapped) = reply[1..].split_at_mut(first.len());
-    let wrapped = &mut wrapped[..second.len()];
+#[inline(always)]
+fn send(ram: &[u16], words: &mut [u16], [first, second]: [Range<usize>; 2]) {
+    let (before_end, wrapped) = words.split_at_mut(first.len());
     before_end.copy_from_slice(&ram[first]);
-    wrapped.copy_from_slice(&ram[second]);
+    if !wrapped.is_empty() {
+        wrapped.copy_from_slice(&ram[second]);
+    }
 }
 
 /// Rule 5; returns the new pointer, and whether it rolled over.
@@ -408,9 +417,9 @@ pub(super) fn block_status<const PLANTED: u8>(
     };
     bit(15, true)
         | bit(13, record.has_flag(FLAG_BUS_B))
-        | bit(12, faults.any())
+        | bit(12, !judged.valid)
         | bit(11, record.is_transfer())
-        | bit(10, faults.any())
+        | bit(10, !judged.valid)
         | bit(no_status, faults.no_status)
         | bit(7, rollover)
         | bit(6, judged.illegal)
@@ -425,7 +434,7 @@ pub(super) fn block_status<const PLANTED: u8>(
 /// Rule 8.
 fn status_word(judged: &Judged, settings: &Settings) -> u16 {
     (settings.address << 11)
-        | bit(10, !judged.is_valid() || judged.illegal)
+        | bit(10, !judged.valid || judged.illegal)
         | bit(8, settings.service_request)
         | bit(4, judged.broadcast)
         | bit(3, judged.busy)
@@ -438,7 +447,7 @@ fn interrupt_word(judged: &Judged, cell: &Cell, rollover: bool, stack_wrapped: b
     bit(14, judged.illegal)
         | bit(10, rollover && cell.circular_interrupt)
         | bit(6, stack_wrapped)
-        | bit(4, !judged.is_valid())
+        | bit(4, !judged.valid)
         | bit(2, cell.message_interrupt)
         | bit(1, true)
         | bit(0, true)

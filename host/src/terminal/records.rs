@@ -92,6 +92,7 @@ pub fn read_record_planted(planted: Planted, bytes: &[u8]) -> Result<Record, u16
     with_planted!(planted, read_record_with(bytes))
 }
 
+#[inline(always)]
 pub(super) fn read_record_with<const PLANTED: u8>(bytes: &[u8]) -> Result<Record, u16> {
     let bytes: &[u8; RECORD_BYTES] = bytes.try_into().map_err(|_| refusal::RECORD_LENGTH)?;
     if bytes[ZERO_BYTES] != [0; 8] {

@@ -39,7 +39,7 @@ pub fn writes(ram: &[u16], settings: &Settings, record: &Record) -> Result<(u16,
     } else {
         judged.words_to_send()
     };
-    let (pointer, rollover) = next_pointer::<NONE>(&cell, moved, judged.is_valid(), settings);
+    let (pointer, rollover) = next_pointer::<NONE>(&cell, moved, judged.valid, settings);
 
     let mut list = Vec::new();
     if stores {
