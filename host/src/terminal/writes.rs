@@ -1,10 +1,10 @@
 //! What one message writes into RAM, as a list in order: stored words, the
 //! lookup pointer where it moves, four stack words, the stack pointer.
 
-use super::cells::{lookup_place, stack_pointer_place, Cell, Kind, Stack};
+use super::cells::{lookup_place, stack_pointer_place, Cell, Kind, Stack, DESCRIPTOR_WORDS};
 use super::message::{block_status, locate, next_pointer, runs, Judged};
 use super::planted::NONE;
-use super::records::Record;
+use super::records::{Record, RECORD_WORDS};
 use super::settings::Settings;
 use super::words::Command;
 
@@ -28,6 +28,9 @@ pub enum Part {
     StackPointer,
 }
 
+/// Data words, a lookup pointer, a descriptor and the stack pointer.
+const MOST_WRITES: usize = RECORD_WORDS + 1 + DESCRIPTOR_WORDS + 1;
+
 /// The writes of a message that keeps its layout, and the number of its cell;
 /// 6 to 9 refuse, as they do when it is carried out.
 pub fn writes(ram: &[u16], settings: &Settings, record: &Record) -> Result<(u16, Vec<Write>), u16> {
@@ -41,7 +44,7 @@ pub fn writes(ram: &[u16], settings: &Settings, record: &Record) -> Result<(u16,
     };
     let (pointer, rollover) = next_pointer::<NONE>(&cell, moved, judged.valid, settings);
 
-    let mut list = Vec::new();
+    let mut list = Vec::with_capacity(MOST_WRITES);
     if stores {
         list.extend(stored(&cell, moved, record));
     }
@@ -65,9 +68,9 @@ fn write(address: usize, word: u16, part: Part) -> Write {
 }
 
 fn stored<'a>(cell: &Cell, count: u16, record: &'a Record) -> impl Iterator<Item = Write> + 'a {
-    let addresses = runs::<NONE>(cell, count).into_iter().flatten();
-    let words = addresses.zip(record.words.iter().zip(1..));
-    words.map(|(address, (&word, place))| write(address, word, Part::Data(place)))
+    let [first, second] = runs::<NONE>(cell, count);
+    let words = first.chain(second).zip(&record.words).zip(1..);
+    words.map(|((address, &word), place)| write(address, word, Part::Data(place)))
 }
 
 /// The four stack words and the stack pointer.
