@@ -7,7 +7,7 @@
 
 use std::ops::Range;
 
-use super::cells::{Kind, Scheme};
+use super::cells::{Kind, Scheme, CELLS};
 use super::described::{self, CellDescription, StackDescription};
 use super::label::{self, AreaLabel, Sharer};
 use super::records::RECORD_WORDS;
@@ -21,8 +21,6 @@ pub const REMEMBERED_WORDS: usize = 2;
 pub const VALUE_WORDS: usize = TRANSMIT_COMMAND + 1;
 /// Words of an answer.
 pub const ANSWER_WORDS: usize = 9;
-/// Cells that there can be: three kinds, thirty subaddresses.
-const CELLS: usize = 90;
 /// Words of a cell's listing: how many, and two for each other cell.
 pub const LISTING_WORDS: usize = 1 + 2 * (CELLS - 1);
 /// Words of the counts: of unsound cells and of pairs.

@@ -17,6 +17,9 @@ const SINGLE_WORDS: usize = 32;
 const DOUBLE_WORDS: usize = 64;
 pub const DESCRIPTOR_WORDS: usize = 4;
 
+/// Cells that there can be: three kinds, thirty subaddresses.
+pub(super) const CELLS: usize = 90;
+
 /// Places of the control words behind the three pointer tables.
 const CONTROL_OFFSET: usize = 3 * 32;
 
@@ -218,5 +221,5 @@ pub fn cells_read<'a>(ram: &'a [u16], settings: &'a Settings) -> impl Iterator<I
     };
     kinds
         .iter()
-        .flat_map(move |&kind| (1..=30).map(move |sub| Cell::read(ram, settings, kind, sub)))
+        .flat_map(move |&kind| (1..31).map(move |sub| Cell::read(ram, settings, kind, sub)))
 }

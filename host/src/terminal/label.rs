@@ -1,7 +1,7 @@
 //! A label on shared pages: which cells share words of RAM, and which of them
 //! can write there.
 
-use super::cells::{cells_read, check_ram, meet, Cell, Kind, Stack};
+use super::cells::{cells_read, check_ram, meet, Cell, Kind, Stack, CELLS};
 use super::refusal;
 use super::settings::Settings;
 
@@ -25,42 +25,52 @@ pub struct AreaLabel {
 /// Every other cell whose window meets this cell's window, in rising number.
 /// Refuses with 1, 3, 8, and with 9 a cell that is unsound or not read.
 pub fn label_cell(ram: &[u16], settings: &Settings, cell: u16) -> Result<Vec<Sharer>, u16> {
-    let (sound, _) = sorted_cells(ram, settings)?;
-    let place = sound.iter().position(|other| other.number() == cell);
-    let asked = &sound[place.ok_or(refusal::CELL)?];
-    let sharers = sound.iter().filter(|other| share(asked, other));
-    Ok(sharers.map(sharer).collect())
+    let stack = sound_stack(ram, settings)?;
+    let is_sound = |it: &Cell| it.is_sound(ram.len(), &stack);
+    let asked = cells_read(ram, settings).find(|it| it.number() == cell);
+    let window = asked.filter(is_sound).ok_or(refusal::CELL)?.window();
+    let mut sharers = Vec::with_capacity(CELLS);
+    cells_read(ram, settings).for_each(|other| {
+        if other.number() != cell && is_sound(&other) && meet(&window, &other.window()) {
+            sharers.push(sharer(&other));
+        }
+    });
+    Ok(sharers)
 }
 
 /// The unsound cells, and each pair of others whose windows meet.
 /// Refuses with 1, 3 and 8.
 pub fn label_area(ram: &[u16], settings: &Settings) -> Result<AreaLabel, u16> {
-    let (sound, unsound) = sorted_cells(ram, settings)?;
-    let mut label = AreaLabel {
-        unsound: unsound.iter().map(Cell::number).collect(),
-        pairs: Vec::new(),
-    };
-    for (place, lower) in sound.iter().enumerate() {
-        let higher = sound[place + 1..].iter().filter(|cell| share(lower, cell));
-        let pairs = higher.map(|cell| (lower.number(), cell.number()));
-        label.pairs.extend(pairs);
+    let stack = sound_stack(ram, settings)?;
+    let mut label = AreaLabel::default();
+    // The sound cells and their windows.
+    let mut sound = Vec::with_capacity(CELLS);
+    cells_read(ram, settings).for_each(|cell| {
+        if cell.is_sound(ram.len(), &stack) {
+            sound.push((cell.number(), cell.window()));
+        } else {
+            label.unsound.push(cell.number());
+        }
+    });
+    for (place, (lower, window)) in sound.iter().enumerate() {
+        for (higher, other) in &sound[place + 1..] {
+            if meet(window, other) {
+                label.pairs.push((*lower, *higher));
+            }
+        }
     }
     Ok(label)
 }
 
-/// The cells that the whole-area check reads, sound ones and then others.
-fn sorted_cells(ram: &[u16], settings: &Settings) -> Result<(Vec<Cell>, Vec<Cell>), u16> {
+/// The stack; 1, 3 and 8 refuse.
+fn sound_stack(ram: &[u16], settings: &Settings) -> Result<Stack, u16> {
     check_ram(ram)?;
     settings.check()?;
     let stack = Stack::read(ram, settings);
     if !stack.is_sound(ram.len()) {
         return Err(refusal::STACK);
     }
-    Ok(cells_read(ram, settings).partition(|cell| cell.is_sound(ram.len(), &stack)))
-}
-
-fn share(a: &Cell, b: &Cell) -> bool {
-    a.number() != b.number() && meet(&a.window(), &b.window())
+    Ok(stack)
 }
 
 fn sharer(cell: &Cell) -> Sharer {
