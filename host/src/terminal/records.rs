@@ -83,6 +83,7 @@ impl Record {
 }
 
 /// Reads a record, or refuses with 4 (length) or 5 (layout).
+#[inline(always)]
 pub fn read_record(bytes: &[u8]) -> Result<Record, u16> {
     read_record_with::<NONE>(bytes)
 }
@@ -121,6 +122,7 @@ pub(super) fn taken_apart(bytes: &[u8; RECORD_BYTES]) -> Record {
 }
 
 /// Writes a record, or refuses with 5 a value that breaks the layout.
+#[inline(always)]
 pub fn write_record(record: &Record) -> Result<[u8; RECORD_BYTES], u16> {
     write_record_with::<NONE>(record)
 }
@@ -130,6 +132,7 @@ pub fn write_record_planted(planted: Planted, record: &Record) -> Result<[u8; RE
     with_planted!(planted, write_record_with(record))
 }
 
+#[inline(always)]
 fn write_record_with<const PLANTED: u8>(record: &Record) -> Result<[u8; RECORD_BYTES], u16> {
     record.check::<PLANTED>()?;
     Ok(put_together(record))
