@@ -231,14 +231,16 @@ pub fn remembered_words(remembered: Remembered) -> [u16; REMEMBERED_WORDS] {
 
 /// Flags and count are bytes in a record: a larger word is as wrong as 255.
 pub fn record_of(value: &[u16]) -> Record {
-    let value: [u16; VALUE_WORDS] = front(value);
+    let [command, tag, flags, count] = front(value);
+    let data = value.get(HEAD_WORDS..).unwrap_or_default();
+    let last = value.get(TRANSMIT_COMMAND).copied();
     Record {
-        command: value[0],
-        transmit_command: value[TRANSMIT_COMMAND],
-        tag: value[1],
-        flags: value[2].min(0xFF),
-        count: value[3].min(0xFF),
-        words: front(&value[HEAD_WORDS..]),
+        command,
+        transmit_command: last.unwrap_or(0),
+        tag,
+        flags: flags.min(0xFF),
+        count: count.min(0xFF),
+        words: front(data),
     }
 }
 
