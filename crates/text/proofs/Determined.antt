@@ -5,8 +5,8 @@ use Rattle.words.proofs.Settled.{determined, Settled}
 use Rattle.text.proofs.line
 use Rattle.text.proofs.text
 
-pub put-line-settled : Settled 1 line.put_line.Kinds.ps line.put_line.Kinds.r line.put_line.Reads.Post
-put-line-settled κs a x y v w p q =
+pub put-columns-settled : Settled 2 line.put_columns.Kinds.ps line.put_columns.Kinds.r line.put_columns.Reads.Post
+put-columns-settled κs a x y v w p q =
     (determined (p .place) (q .place), λ i. (determined (p .bytes) (q .bytes) i, v .1))
 
 pub put-hex-word-settled : Settled 1 line.put_hex_word.Kinds.ps line.put_hex_word.Kinds.r line.put_hex_word.Reads.Post

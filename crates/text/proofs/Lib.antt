@@ -1,4 +1,5 @@
 pub mod Runs
 pub mod Numerals
+pub mod TwoDigits
 pub mod Lines
 pub mod Determined

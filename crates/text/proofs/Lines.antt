@@ -11,7 +11,7 @@ use borrow.Author.Tests.{eqb-true}
 use Rattle.words.proofs.Basics.{yes-or-no}
 use Rattle.message.specs.declared.answer.Answer.{Answer}
 use Rattle.text.specs.Text.{decimalText, digits, placesUpTo}
-use Rattle.text.specs.Line.{statusText, noneText, startText, threeWords, acceptedLine, refusedLine, lineOf, namedLine}
+use Rattle.text.specs.Line.{statusText, noneText, threeWords, acceptedColumns, refusedColumns, columnsOf, lineOf, namedLine}
 use Rattle.text.proofs.Runs.{length-hex}
 use Rattle.text.proofs.Numerals.{decimal-most}
 
@@ -20,37 +20,36 @@ unfolding statusText noneText
 length-status true status = length-hex status
 length-status false status = refl
 
-pub length-start : (number refusal : ℕ) → length (startText number refusal) ≤ 41
-unfolding startText
-length-start number refusal =
-    rw length-append (omega (arith, decimal-most number, decimal-most refusal))
-
 pub length-three : (x y z : ℕ) → length (threeWords x y z) ≡ 15
 unfolding threeWords
 length-three x y z = simp (length-append, length-hex) (omega arith)
 
+length-nothing : length (decimalText 0) ≡ 1
+unfolding decimalText digits placesUpTo
+length-nothing = refl
+
 -- an accepted record's number is 0, one digit
-length-start-none : (number : ℕ) → length (startText number 0) ≤ 22
-unfolding startText decimalText digits placesUpTo
-length-start-none number = rw length-append (omega (arith, decimal-most number))
+accepted-most : (a : Answer) → a .number ≡ 0 → length (acceptedColumns a) ≤ 50
+unfolding acceptedColumns
+accepted-most a e =
+    let n : length (decimalText (a .number)) ≡ 1 = rw (e, length-nothing) in
+    simp (length-append, length-three, length-status, length-hex) (omega (arith, n, decimal-most (a .sent)))
 
-accepted-most : (number : ℕ) (a : Answer) → a .number ≡ 0 → length (acceptedLine number a) ≤ 72
-unfolding acceptedLine
-accepted-most number a e =
-    simp (e, length-append, length-three, length-status, length-hex)
-    (omega (arith, length-start-none number, decimal-most (a .sent)))
+refused-most : (refusal : ℕ) → length (refusedColumns refusal) ≤ 50
+unfolding refusedColumns
+refused-most refusal = rw length-append (omega (arith, decimal-most refusal))
 
-refused-most : (number refusal : ℕ) → length (refusedLine number refusal) ≤ 72
-unfolding refusedLine
-refused-most number refusal = rw length-append (omega (arith, length-start number refusal))
+columns-most : (a : Answer) → length (columnsOf a) ≤ 50
+unfolding columnsOf
+columns-most a =
+    ⊎-elim (λ (e : eqb (a .number) 0 ≡ true). rw e (accepted-most a (eqb-true (a .number) 0 e)))
+    (λ (e : eqb (a .number) 0 ≡ false). rw e (refused-most (a .number)))
+    (yes-or-no (eqb (a .number) 0))
 
 -- a record's line is shorter than its record
 pub line-most : (number : ℕ) (a : Answer) → length (lineOf number a) ≤ 72
 unfolding lineOf
-line-most number a =
-    ⊎-elim (λ (e : eqb (a .number) 0 ≡ true). rw e (accepted-most number a (eqb-true (a .number) 0 e)))
-    (λ (e : eqb (a .number) 0 ≡ false). rw e (refused-most number (a .number)))
-    (yes-or-no (eqb (a .number) 0))
+line-most number a = rw length-append (omega (arith, decimal-most number, columns-most a))
 
 -- a line of a name and a number
 pub named-most : (name : List ℕ) (n : ℕ) → length (namedLine name n) ≤ length name + 22

@@ -4,7 +4,7 @@ use native.Mathlib.Nat.{pow-succ'}
 use native.Mathlib.Omega.{arith}
 use mathlib.Core.Path.{_≡_, refl}
 use mathlib.Core.Logic.{⊎-elim}
-use mathlib.Core.List.{List, [], _∷_}
+use mathlib.Core.List.{List, [], _∷_, _++_, append-assoc}
 use lib.ListN.{length, set, length-append}
 use lib.Seq.{sets}
 use borrow.Author.Tests.{lt-ltb, le-ltb}
@@ -96,3 +96,55 @@ length-decimal n = length-digits (placesUpTo 19 n) n
 -- a number has at most 20 digits
 pub decimal-most : (n : ℕ) → length (decimalText n) ≤ 20
 decimal-most n = rw length-decimal (places-most 19 n)
+
+-- ---- two digits at a time
+
+-- how many digits a small number has does not hang on how far one counts
+places-same : (k a b n : ℕ) → n < 10 ^ k → placesUpTo (k + a) n ≡ placesUpTo (k + b) n
+places-same zero a b n h =
+    let small : n < 10 = omega arith in rw (places-one (0 + a) n small, places-one (0 + b) n small)
+places-same (suc k) a b n h =
+    let p : n < 10 * 10 ^ k = rw pow-succ' at h in
+    let ea : suc k + a ≡ suc (k + a) = omega arith in
+    let eb : suc k + b ≡ suc (k + b) = omega arith in
+    rw (ea, eb)
+    (⊎-elim (λ s. rw (places-one (suc (k + a)) n s, places-one (suc (k + b)) n s))
+    (λ l. rw (places-more (k + a) n l, places-more (k + b) n l, places-same k a b (n / 10) (omega arith)))
+    (lt-or-ge n 10))
+
+digits-pair : (j n : ℕ) → digits (suc (suc j)) n ≡ digits j (n / 100) ++ digits 2 n
+unfolding digits
+digits-pair j n =
+    let e : n / 10 / 10 ≡ n / 100 = omega arith in
+    rw (e, append-assoc (digits j (n / 100)) ((48 + n / 10 % 10) ∷ []) ((48 + n % 10) ∷ []))
+
+-- a number of more than two digits: those in front of the last two, and these
+pub decimal-pair : (n : ℕ) → 100 ≤ n → n < 100000000 → decimalText n ≡ decimalText (n / 100) ++ digits 2 n
+unfolding decimalText
+decimal-pair n h l =
+    let e : n / 10 / 10 ≡ n / 100 = omega arith in
+    let m : n / 100 < 10 ^ 6 = omega arith in
+    let p : placesUpTo 19 n ≡ suc (suc (placesUpTo 19 (n / 100))) =
+    rw (places-more 18 n (omega arith), places-more 17 (n / 10) (omega arith), e, places-same 6 11 13 (n / 100) m) in
+    rw (p, digits-pair)
+
+pub decimal-one : (n : ℕ) → n < 10 → decimalText n ≡ (48 + n) ∷ []
+unfolding decimalText digits
+decimal-one n h = let e : n % 10 ≡ n = omega arith in rw (places-one 19 n h, e)
+
+pub decimal-two : (n : ℕ) → 10 ≤ n → n < 100 → decimalText n ≡ digits 2 n
+unfolding decimalText
+decimal-two n h l = rw (places-more 18 n h, places-one 18 (n / 10) (omega arith))
+
+-- only the last two digits count
+pub pair-last : (n : ℕ) → digits 2 (n % 100) ≡ digits 2 n
+unfolding digits
+pair-last n =
+    let e : n % 100 / 10 % 10 ≡ n / 10 % 10 = omega arith in
+    let f : n % 100 % 10 ≡ n % 10 = omega arith in rw (e, f)
+
+pub pair-before : (n : ℕ) → digits 2 (n % 10000 / 100) ≡ digits 2 (n / 100)
+pair-before n = let e : n % 10000 / 100 ≡ n / 100 % 100 = omega arith in rw (e, pair-last)
+
+pub pair-after : (n : ℕ) → digits 2 (n % 10000 % 100) ≡ digits 2 n
+pair-after n = let e : n % 10000 % 100 ≡ n % 100 = omega arith in rw (e, pair-last)

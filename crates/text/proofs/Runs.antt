@@ -2,12 +2,15 @@
 use Prim.Native.Nat.{ℕ, suc, _+_, _-_, _/_, _%_, _^_, _<_, _≤_}
 use native.Mathlib.Numerals.{add-one}
 use native.Mathlib.Omega.{arith}
-use mathlib.Core.Path.{_≡_, refl}
+use mathlib.Core.Path.{_≡_, refl, sym, _∙_}
 use mathlib.Core.Logic.{⊎-elim}
+use mathlib.Core.Bool.{Bool, true, _&&_}
 use mathlib.Core.List.{List, [], _∷_, _++_}
 use lib.ListN.{length, getD, set, take, length-append}
 use lib.Seq.{sets, take-suc, set-comm, set-out, length-take-le}
-use Rattle.words.proofs.Basics.{lt-or-ge}
+use lib.Dec.{ltb, leb}
+use borrow.Author.Tests.{ltb-true, leb-true, le-leb, lt-leb}
+use Rattle.words.proofs.Basics.{lt-or-ge, and-left, and-right}
 use Rattle.words.proofs.Runs.{sets-append}
 use Rattle.text.specs.Text.{hexDigit, hexText, placeAfter, Put, PutFirst}
 
@@ -120,3 +123,19 @@ put-then {l} {l₁} {l₂} {xs} {ys} {at} {p} a b =
 -- text at the front that is not too long to count
 pub put-first : {l l₁ xs : List ℕ} {p : ℕ} → Put l 0 xs l₁ p → length xs < 2 ^ 64 → PutFirst l xs l₁ p
 put-first a h = record { bytes = a .bytes; length = omega (arith, a .place) }
+
+-- ---- room
+
+pub room-left : (at n all : ℕ) → at ≤ all → leb n (all - at) ≡ leb (at + n) all
+room-left at n all h =
+    ⊎-elim (λ (l : all - at < n). rw (lt-leb n (all - at) l, lt-leb (at + n) all (omega arith)))
+    (λ (l : n ≤ all - at). rw (le-leb n (all - at) l, le-leb (at + n) all (omega arith)))
+    (lt-or-ge (all - at) n)
+
+-- a number is small, and there is room for it
+pub room-says :
+    (m limit at n all : ℕ) {small room may : Bool} →
+    small ≡ ltb m limit → room ≡ leb (at + n) all → may ≡ (small && room) → may ≡ true → (m < limit) × (at + n ≤ all)
+room-says m limit at n all {small} {room} e r b t =
+    let h : (small && room) ≡ true = sym b ∙ t in
+    (ltb-true m limit (sym e ∙ and-left small room h), leb-true (at + n) all (sym r ∙ and-right small room h))

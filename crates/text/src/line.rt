@@ -1,14 +1,18 @@
 // The program's lines into a lent buffer. Each function answers the place after what it puts there.
+ghost use mathlib.Core.Path.{_≡_};
 ghost use Rattle.text.specs.Text.{Put, hexText, decimalText, newline};
-ghost use Rattle.text.specs.Line.{column, statusText, startText, threeWords, acceptedLine, refusedLine, lineOf, namedLine};
+ghost use Rattle.text.specs.Line.{column, statusText, threeWords, acceptedColumns, refusedColumns, columnsOf, namedLine};
+ghost use Rattle.text.specs.Table.{hexTable};
+use crate::columns::copy_accepted;
 use crate::text::after;
+use crate::text::has_room;
 use crate::text::places;
 use crate::text::put_byte;
 use crate::text::put_bytes;
-use crate::text::put_decimal;
 use crate::text::put_digits;
 use crate::text::put_hex;
 use message::answer::Answer;
+use words::choose::both;
 
 pub fn put_newline(out: &mut [u8], at: usize) -> usize
     ensures { λ r. ⌜ Put (now (out .entry)) at newline (now (out .exit)) r ⌝ }
@@ -66,14 +70,6 @@ fn put_status(out: &mut [u8], at: usize, answered: bool, status: u16) -> usize
     }
 }
 
-// The first two columns of every record's line.
-fn put_start(out: &mut [u8], at: usize, number: u64, refusal: u16) -> usize
-    ensures { λ r. ⌜ Put (now (out .entry)) at (startText number refusal) (now (out .exit)) r ⌝ }
-{
-    let next = put_decimal(out, at, number);
-    put_number(out, next, refusal as u64)
-}
-
 fn put_three(out: &mut [u8], at: usize, x: u16, y: u16, z: u16) -> usize
     ensures { λ r. ⌜ Put (now (out .entry)) at (threeWords x y z) (now (out .exit)) r ⌝ }
 {
@@ -82,10 +78,10 @@ fn put_three(out: &mut [u8], at: usize, x: u16, y: u16, z: u16) -> usize
     put_word(out, third, z)
 }
 
-fn put_accepted(out: &mut [u8], at: usize, number: u64, a: Answer) -> usize
-    ensures { λ r. ⌜ Put (now (out .entry)) at (acceptedLine number a) (now (out .exit)) r ⌝ }
+fn put_accepted(out: &mut [u8], at: usize, a: Answer) -> usize
+    ensures { λ r. ⌜ Put (now (out .entry)) at (acceptedColumns a) (now (out .exit)) r ⌝ }
 {
-    let words = put_start(out, at, number, a.number);
+    let words = put_number(out, at, a.number as u64);
     let status = put_three(out, words, a.block_status, a.before, a.after);
     let sent = put_status(out, status, a.answered, a.status);
     let interrupt = put_number(out, sent, a.sent as u64);
@@ -93,21 +89,24 @@ fn put_accepted(out: &mut [u8], at: usize, number: u64, a: Answer) -> usize
     put_newline(out, end)
 }
 
-fn put_refused(out: &mut [u8], at: usize, number: u64, refusal: u16) -> usize
-    ensures { λ r. ⌜ Put (now (out .entry)) at (refusedLine number refusal) (now (out .exit)) r ⌝ }
+fn put_refused(out: &mut [u8], at: usize, refusal: u16) -> usize
+    ensures { λ r. ⌜ Put (now (out .entry)) at (refusedColumns refusal) (now (out .exit)) r ⌝ }
 {
-    let end = put_start(out, at, number, refusal);
+    let end = put_number(out, at, refusal as u64);
     put_newline(out, end)
 }
 
-// The line of a record, accepted or refused.
-pub fn put_line(out: &mut [u8], at: usize, number: u64, a: Answer) -> usize
-    ensures { λ r. ⌜ Put (now (out .entry)) at (lineOf number a) (now (out .exit)) r ⌝ }
+// The columns of a record's line after its place, accepted or refused. Only where the buffer ends is each byte tested.
+pub fn put_columns(out: &mut [u8], at: usize, a: Answer, table: &[u8]) -> usize
+    requires { ⌜ now table ≡ hexTable ⌝ }
+    ensures { λ r. ⌜ Put (now (out .entry)) at (columnsOf a) (now (out .exit)) r ⌝ }
 {
-    if a.number == 0 {
-        put_accepted(out, at, number, a)
+    if a.number != 0 {
+        put_refused(out, at, a.number)
+    } else if both(a.sent < 100, has_room(out.len(), at, 32)) {
+        copy_accepted(out, at, a, table)
     } else {
-        put_refused(out, at, number, a.number)
+        put_accepted(out, at, a)
     }
 }
 

@@ -1,10 +1,14 @@
 // Text into a lent buffer. A byte past the buffer's end is dropped, as in the definition; where the first one is,
 // nothing is put, so that no place is ever counted past the last number.
 ghost use mathlib.Core.Path.{_≡_};
-ghost use Prim.Native.Nat.{_≤_, _<_, _^_};
-ghost use lib.ListN.{set};
+ghost use Prim.Native.Nat.{_+_, _≤_, _<_, _^_};
+ghost use mathlib.Core.List.{[], _∷_};
+ghost use lib.Dec.{leb};
+ghost use lib.ListN.{length, set};
 ghost use lib.Seq.{sets};
 ghost use Rattle.text.specs.Text.{placeAfter, Put, hexDigit, hexText, digits, placesUpTo, decimalText};
+use crate::decimal::put_long;
+use words::choose::both;
 
 // The place n bytes on. The last number stands for every place past it too: no buffer reaches it.
 pub(crate) fn after(at: usize, n: usize) -> usize
@@ -25,6 +29,26 @@ pub(crate) fn put_byte(out: &mut [u8], at: usize, b: u8)
     }
 }
 
+// A byte where there is room for it, and the place after it.
+pub(crate) fn write_byte(out: &mut [u8], at: usize, b: u8) -> usize
+    requires { ⌜ at < length (now out) ⌝ }
+    ensures { λ r. ⌜ Put (now (out .entry)) at (b ∷ []) (now (out .exit)) r ⌝ }
+{
+    out[at] = b;
+    at + 1
+}
+
+// Whether n bytes from the place `at` on lie in a buffer of this length.
+pub(crate) fn has_room(length: usize, at: usize, n: usize) -> bool
+    ensures { λ r. ⌜ r ≡ leb (at + n) length ⌝ }
+{
+    if at <= length {
+        n <= length - at
+    } else {
+        false
+    }
+}
+
 // The bytes of `s` at `at`, and the place after them.
 pub fn put_bytes(out: &mut [u8], at: usize, s: &[u8]) -> usize
     ensures { λ r. ⌜ Put (now (out .entry)) at (now (s .entry)) (now (out .exit)) r ⌝ }
@@ -40,7 +64,7 @@ pub fn put_bytes(out: &mut [u8], at: usize, s: &[u8]) -> usize
     at + i
 }
 
-fn hex_digit(d: u16) -> u8
+pub(crate) fn hex_digit(d: u16) -> u8
     requires { ⌜ d < 16 ⌝ }
     ensures { λ r. ⌜ r ≡ hexDigit d ⌝ }
 {
@@ -86,8 +110,8 @@ pub(crate) fn put_digits(out: &mut [u8], at: usize, k: usize, n: u64)
     }
 }
 
-// A decimal number, and the place after it.
-pub(crate) fn put_decimal(out: &mut [u8], at: usize, n: u64) -> usize
+// A decimal number digit by digit, as far as there is room.
+fn put_each_digit(out: &mut [u8], at: usize, n: u64) -> usize
     ensures { λ r. ⌜ Put (now (out .entry)) at (decimalText n) (now (out .exit)) r ⌝ }
 {
     let k = places(n);
@@ -97,4 +121,15 @@ pub(crate) fn put_decimal(out: &mut [u8], at: usize, n: u64) -> usize
     }
     put_digits(out, at, k, n);
     next
+}
+
+// A decimal number, and the place after it. Most have eight digits at most, and room for as many.
+pub fn put_decimal(out: &mut [u8], at: usize, n: u64) -> usize
+    ensures { λ r. ⌜ Put (now (out .entry)) at (decimalText n) (now (out .exit)) r ⌝ }
+{
+    if both(n < 100000000, has_room(out.len(), at, 8)) {
+        put_long(out, at, n as u32)
+    } else {
+        put_each_digit(out, at, n)
+    }
 }

@@ -1,42 +1,58 @@
 -- `put_decimal` meets its contract.
 use native.Mathlib.Omega.{arith}
 use borrow.Author.Needs.{needs}
-use Rattle.text.specs.Text.{decimalText}
-use Rattle.text.proofs.Runs.{put-out}
-use Rattle.text.proofs.Numerals.{length-digits, length-decimal}
+use mathlib.Core.Path.{refl}
+use Rattle.text.proofs.Runs.{room-says}
 use Rattle.text.proofs.text.put_decimal.Statement.{statement}
 use Rattle.text.proofs.text.put_decimal.Tie as tie
 
-places-requires : tie.Need-places-requires
-places-requires c κs = search needs
+has-room-requires : tie.Need-has-room-requires
+has-room-requires c κs = search needs
 
-after-requires : tie.Need-after-requires
-after-requires c κs = search needs
+both-requires : tie.Need-both-requires
+both-requires c κs = search needs
 
-returns : tie.Need-returns
-returns c =
-    let counted = c .before .before in
-    put-out (omega arith) (c .if1 .taken)
-    (rw (length-decimal, ← (counted .places .ensures .0)) (c .before .after .ensures))
+cast-put-long : tie.Need-cast-put-long
+cast-put-long c =
+    let t = c .before in
+    let a = t .before .before .before .before .args in
+    let s =
+    room-says (a .n) 100000000 (a .at) 8 _ refl (t .before .before .has-room .ensures) (t .before .both .ensures) (t .if1 .taken) in
+    omega (arith, s .0)
 
-put-digits-requires : tie.Need-put-digits-requires
-put-digits-requires c κs = search needs
+put-long-requires : tie.Need-put-long-requires
+put-long-requires c κs =
+    let t = c .before in
+    let a = t .before .before .before .before .args in
+    let s =
+    room-says (a .n) 100000000 (a .at) 8 _ refl (t .before .before .has-room .ensures) (t .before .both .ensures) (t .if1 .taken) in
+    (omega (arith, s .1), omega (arith, s .0))
+
+put-each-digit-requires : tie.Need-put-each-digit-requires
+put-each-digit-requires c κs = search needs
 
 same-length : tie.Need-same-length
 same-length c = search needs
 
+returns : tie.Need-returns
+returns c = search needs
+
+same-length-2 : tie.Need-same-length-2
+same-length-2 c = search needs
+
 returns-2 : tie.Need-returns-2
-unfolding decimalText
-returns-2 c =
-    let next = c .before .before .before .before .before in
-    let e = next .before .places .ensures .0 in
-    record {
-      short = omega arith;
-      bytes = rw (c .before .before .put-digits .ensures, e);
-      place = rw (length-digits, ← e) (next .after .ensures);
-    }
+returns-2 c = search needs
 
 pub put-decimal-spec : {M : Type 1} → statement M
 put-decimal-spec =
     tie.close
-    (tie.spec places-requires after-requires returns put-digits-requires same-length returns-2)
+    (tie.spec
+    has-room-requires
+    both-requires
+    cast-put-long
+    put-long-requires
+    put-each-digit-requires
+    same-length
+    returns
+    same-length-2
+    returns-2)

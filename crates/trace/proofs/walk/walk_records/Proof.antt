@@ -1,4 +1,4 @@
--- `walk` meets its contract. The loop's invariant: the walk stands after `i` records.
+-- `walk_records` meets its contract. The loop's invariant: the walk stands after `i` records.
 use Prim.Native.Nat.{_≤_, _+_, _-_, _*_, _/_}
 use native.Mathlib.Omega.{arith}
 use mathlib.Core.Path.{_≡_, refl, _∙_}
@@ -7,17 +7,17 @@ use denote.Ref.{now}
 use borrow.Author.Needs.{needs}
 use Rattle.trace.specs.Walk.{walkTo, walkStart, walkAll}
 use Rattle.trace.proofs.Walks.{Stands, stands-none, stands-more, stands-text, stands-back}
-use Rattle.trace.proofs.walk.walk.Statement.{statement}
-use Rattle.trace.proofs.walk.walk.Tie as tie
+use Rattle.trace.proofs.walk.walk_records.Statement.{statement}
+use Rattle.trace.proofs.walk.walk_records.Tie as tie
 
 abbrev Inv-loop : tie.InvT-loop
-Inv-loop ram₀ reply₀ out₀ s number trace records w₀ i₀ ram reply out w i =
+Inv-loop ram₀ reply₀ out₀ s number trace table records w₀ i₀ ram reply out w i =
     (i ≤ records)
     × (Stands (walkTo s trace (walkStart ram₀ reply₀ (w₀ .remembered) (w₀ .number)) i) out₀ ram reply out w
     × ((length ram ≡ length ram₀) × ((length reply ≡ length reply₀) × (length out ≡ length out₀))))
 
 abbrev μ-loop : tie.MeasureT-loop
-μ-loop ram₀ reply₀ out₀ s number trace records w₀ i₀ ram reply out w i = records - i
+μ-loop ram₀ reply₀ out₀ s number trace table records w₀ i₀ ram reply out w i = records - i
 
 loop-holds : tie.Need-loop-holds Inv-loop μ-loop
 loop-holds c = (omega arith, (stands-none _ _ _ _ _ _ _ (omega arith), (refl, (refl, refl))))
@@ -41,7 +41,10 @@ walk-one-requires : tie.Need-walk-one-requires Inv-loop μ-loop
 walk-one-requires c κs = search needs
 
 add-i : tie.Need-add-i Inv-loop μ-loop
-add-i c = search needs
+add-i c =
+    let t = c .before .before .before .before .before .before .before .before .before .before .before in
+    let start = t .before .before .before .before .before .before .before in
+    omega (arith, t .loop-test .taken, start .good .1 .1 .1 .1 .1 .1 .0)
 
 loop-less : tie.Need-loop-less Inv-loop μ-loop
 loop-less c = search needs
@@ -72,13 +75,13 @@ same-length-3 c = search needs
 returns : tie.Need-returns Inv-loop μ-loop
 unfolding walkAll
 returns c =
-    let e : c .before .loop .i ≡ length (now (c .before .before .before .before .before .before .args .trace)) / 80 = omega arith in
+    let e : c .before .loop .i ≡ length (now (c .before .before .before .before .before .before .before .args .trace)) / 80 = omega arith in
     let t = rw e at (c .before .loop .inv .1 .0) in
     let text = stands-text _ _ _ _ (omega arith) t in
     (stands-back t text, (λ i. t .state i .ram, (λ i. t .state i .reply, text .bytes)))
 
-pub walk-spec : {M : Type 1} → statement M
-walk-spec =
+pub walk-records-spec : {M : Type 1} → statement M
+walk-records-spec =
     tie.close
     (tie.spec
     Inv-loop
