@@ -1,9 +1,18 @@
 -- The inputs determine the answer: for each public function, any two results that its contract allows are equal, and so
 -- are any two last values of each lent word. Each line speaks of the contract as the checker reads it (`Reads.Post`),
 -- so that none can drift from its function.
+use mathlib.Core.Path.{refl}
 use Rattle.words.proofs.Settled.{determined, Settled}
 use Rattle.text.proofs.line
+use Rattle.text.proofs.table
 use Rattle.text.proofs.text
+
+pub hex-table-settled : Settled 0 table.hex_table.Kinds.ps table.hex_table.Kinds.r table.hex_table.Reads.Post
+hex-table-settled κs a x y v w p q = (determined p q, refl)
+
+pub put-decimal-settled : Settled 1 text.put_decimal.Kinds.ps text.put_decimal.Kinds.r text.put_decimal.Reads.Post
+put-decimal-settled κs a x y v w p q =
+    (determined (p .place) (q .place), λ i. (determined (p .bytes) (q .bytes) i, v .1))
 
 pub put-columns-settled : Settled 2 line.put_columns.Kinds.ps line.put_columns.Kinds.r line.put_columns.Reads.Post
 put-columns-settled κs a x y v w p q =

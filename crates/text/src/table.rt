@@ -9,7 +9,9 @@ use crate::text::write_byte;
 use words::choose::pick;
 
 // The digits of byte b stand at places 2b and 2b + 1.
-pub fn hex_table() -> [u8; 512]
+pub type Table = [u8; 512];
+
+pub fn hex_table() -> Table
     ensures { λ r. ⌜ r ≡ hexTable ⌝ }
 {
     let mut table = [0u8; 512];
