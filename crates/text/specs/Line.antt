@@ -37,6 +37,7 @@ acceptedColumns a =
 unfoldable pub refusedColumns : ℕ → List ℕ
 refusedColumns refusal = column (decimalText refusal) ++ newline
 
+-- the columns of a record's line after its place
 unfoldable pub columnsOf : Answer → List ℕ
 columnsOf a = cond (eqb (a .number) 0) (acceptedColumns a) (refusedColumns (a .number))
 
