@@ -108,6 +108,10 @@ pub column-here :
 column-here n {l} {l₁} {l₂} {xs} {at} {b} h k long e f p =
     let both : l₂ ≡ sets l at (b ∷ xs) = rw (← e, ← add-one) f in put-here h (omega arith) both (omega arith)
 
+-- the same text, said in another way
+pub put-same : {l l₁ xs ys : List ℕ} {at p : ℕ} → xs ≡ ys → Put l at xs l₁ p → Put l at ys l₁ p
+put-same e a = rw (← e) a
+
 -- text after text
 pub put-then :
     {l l₁ l₂ xs ys : List ℕ} {at p q : ℕ} → Put l at xs l₁ p → Put l₁ p ys l₂ q → Put l at (xs ++ ys) l₂ q

@@ -3,7 +3,7 @@ use native.Mathlib.Omega.{arith}
 use borrow.Author.Needs.{needs}
 use Prim.Native.Nat.{_/_, _%_}
 use mathlib.Core.Path.{_≡_}
-use Rattle.text.proofs.Runs.{put-then}
+use Rattle.text.proofs.Runs.{put-same, put-then}
 use Rattle.text.proofs.Numerals.{length-digits, decimal-pair, pair-before, pair-after}
 use Rattle.text.proofs.decimal.put_long.Statement.{statement}
 use Rattle.text.proofs.decimal.put_long.Tie as tie
@@ -50,8 +50,8 @@ returns-2 c =
     let e : n / 100 / 100 ≡ n / 10000 = omega arith in
     let f = decimal-pair (n / 100) (omega arith) (omega arith) in
     rw (decimal-pair n (omega arith) (omega arith), f, e)
-    (put-then (put-then (front .put-short2 .ensures .0) (rw pair-before at (third .put-pair .ensures)))
-    (rw pair-after at (last .put-pair2 .ensures)))
+    (put-then (put-then (front .put-short2 .ensures .0) (put-same (pair-before n) (third .put-pair .ensures)))
+    (put-same (pair-after n) (last .put-pair2 .ensures)))
 
 pub put-long-spec : {M : Type 1} → statement M
 put-long-spec =

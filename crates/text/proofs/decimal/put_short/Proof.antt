@@ -2,7 +2,7 @@
 use native.Mathlib.Omega.{arith}
 use borrow.Author.Needs.{needs}
 use Prim.Native.Nat.{_%_}
-use Rattle.text.proofs.Runs.{put-then}
+use Rattle.text.proofs.Runs.{put-same, put-then}
 use Rattle.text.proofs.Numerals.{length-digits, decimal-pair, pair-last}
 use Rattle.text.proofs.decimal.put_short.Statement.{statement}
 use Rattle.text.proofs.decimal.put_short.Tie as tie
@@ -30,7 +30,7 @@ returns-2 c =
     let last = c .before .before in
     let few = last .before .before .before .before in
     let n = few .before .before .before .before .args .n in
-    let both = put-then (few .put-few2 .ensures .0) (rw pair-last at (last .put-pair .ensures)) in (
+    let both = put-then (few .put-few2 .ensures .0) (put-same (pair-last n) (last .put-pair .ensures)) in (
       rw (decimal-pair n (few .before .before .if1 .left) (omega arith)) both,
       omega (arith, last .put-pair .ensures .place, length-digits 2 (n % 100)),
     )
