@@ -3,7 +3,7 @@ ghost use mathlib.Core.Path.{_≡_};
 ghost use Rattle.acts.specs.Act.{withheld, wordsStored, wordsSent, actWith, actOf};
 use arrival::target::Target;
 use faults::fault::Faults;
-use faults::fault::any_fault;
+use faults::fault::at_fault;
 use faults::fault::faults_for;
 use records::value::Record;
 use words::choose::both;
@@ -68,5 +68,5 @@ pub fn act_of(s: Settings, t: Target, v: Record) -> Act
     ensures { λ r. ⌜ r ≡ actOf s t v ⌝ }
 {
     let faults = faults_for(t.broadcast, v);
-    act_with(s, t, v, faults, no(any_fault(faults)))
+    act_with(s, t, v, faults, no(at_fault(t.broadcast, v)))
 }

@@ -7,8 +7,8 @@ use Rattle.acts.proofs.act.act_of.Tie as tie
 faults-for-requires : tie.Need-faults-for-requires
 faults-for-requires c κs = search needs
 
-any-fault-requires : tie.Need-any-fault-requires
-any-fault-requires c κs = search needs
+at-fault-requires : tie.Need-at-fault-requires
+at-fault-requires c κs = search needs
 
 no-requires : tie.Need-no-requires
 no-requires c κs = search needs
@@ -22,11 +22,11 @@ returns c =
     rw (
       c .act-with .ensures,
       c .before .no .ensures,
-      c .before .before .any-fault .ensures,
+      c .before .before .at-fault .ensures,
       c .before .before .before .faults-for .ensures,
     )
 
 pub act-of-spec : {M : Type 1} → statement M
 act-of-spec =
     tie.close
-    (tie.spec faults-for-requires any-fault-requires no-requires act-with-requires returns)
+    (tie.spec faults-for-requires at-fault-requires no-requires act-with-requires returns)
