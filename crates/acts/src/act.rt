@@ -67,6 +67,7 @@ fn act_with(s: Settings, t: Target, v: Record, faults: Faults, valid: bool) -> A
 pub fn act_of(s: Settings, t: Target, v: Record) -> Act
     ensures { λ r. ⌜ r ≡ actOf s t v ⌝ }
 {
+    let valid = no(at_fault(t.broadcast, v));
     let faults = faults_for(t.broadcast, v);
-    act_with(s, t, v, faults, no(at_fault(t.broadcast, v)))
+    act_with(s, t, v, faults, valid)
 }

@@ -25,8 +25,8 @@ fn store_each(ram: &mut [u16], w: Window, words: &[u16], n: u16)
     }
 }
 
-// The stored words in two runs, where all of them lie in RAM. By value, as below: the words are put in order for a copy
-// only here, where a copy is made.
+// The stored words in two runs, where all of them lie in RAM. They come by value, so that the compiler puts them in order
+// for a copy only here, where a copy is made.
 fn store_runs(ram: &mut [u16], w: Window, words: Words, n: u16)
     ensures { λ r. ⌜ now (ram .exit) ≡ applyWrites (dataWrites w words n) (now (ram .entry)) ⌝ }
 {
@@ -40,7 +40,7 @@ fn store_runs(ram: &mut [u16], w: Window, words: Words, n: u16)
 }
 
 // The stored words, from the pointer on, wrapping inside the window: a single word by itself, since a run is copied by a
-// call, and none at no cost.
+// call, and for none nothing is worked out.
 pub fn store_words(ram: &mut [u16], w: Window, words: Words, n: u16)
     ensures { λ r. ⌜ now (ram .exit) ≡ applyWrites (dataWrites w words n) (now (ram .entry)) ⌝ }
 {

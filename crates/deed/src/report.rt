@@ -9,7 +9,7 @@ use words::choose::either;
 use words::choose::no;
 use words::settings::Settings;
 
-// Whoever asks knows whether there is any fault.
+// `fault` tells whether there is any: whoever asks has worked it out.
 pub(crate) fn block_status(
     second_bus: bool,
     transfer: bool,

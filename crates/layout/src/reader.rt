@@ -122,7 +122,8 @@ fn eight_are_zero(s: &[u8], from: usize) -> bool
     number_of(&s[from..from + 8]) == 0
 }
 
-// Whether all bytes from `from` on are zero, the last of them in two ways.
+// Whether all bytes from `from` on are zero, eight at a time. The last eight overlap those before them, so that one
+// shape fits every `from`.
 fn all_are_zero(s: &[u8], from: usize) -> bool
     requires { ⌜ (length (now s) ≡ 80) × (from ≤ 24) × (16 ≤ from) ⌝ }
     ensures { λ r. ⌜ r ≡ areZero (now (s .entry)) from (80 - from) ⌝ }
