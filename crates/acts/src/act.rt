@@ -3,7 +3,7 @@ ghost use mathlib.Core.Path.{_≡_};
 ghost use Rattle.acts.specs.Act.{withheld, wordsStored, wordsSent, actWith, actOf};
 use arrival::target::Target;
 use faults::fault::Faults;
-use faults::fault::any_fault;
+use faults::fault::at_fault;
 use faults::fault::faults_for;
 use records::value::Record;
 use words::choose::both;
@@ -67,6 +67,7 @@ fn act_with(s: Settings, t: Target, v: Record, faults: Faults, valid: bool) -> A
 pub fn act_of(s: Settings, t: Target, v: Record) -> Act
     ensures { λ r. ⌜ r ≡ actOf s t v ⌝ }
 {
+    let valid = no(at_fault(t.broadcast, v));
     let faults = faults_for(t.broadcast, v);
-    act_with(s, t, v, faults, no(any_fault(faults)))
+    act_with(s, t, v, faults, valid)
 }

@@ -39,7 +39,7 @@ pub fn carry_out(ram: &mut [u16], s: Settings, p: Plan, v: Record)
     let window = deed.window;
     let words = v.words;
     let area = s.area;
-    store_words(ram, window, &words, deed.stored);
+    store_words(ram, window, words, deed.stored);
     move_pointer(ram, s, deed);
     put_entry(ram, deed, entry, v);
     put(ram, stack_pointer_place(area), entry.after);

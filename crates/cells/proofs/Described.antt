@@ -1,13 +1,13 @@
 -- What RAM says of a cell: its lookup word and its control word, and no other, describe it.
 use Prim.Native.Nat.{ℕ}
-use mathlib.Core.Path.{_≡_}
+use mathlib.Core.Path.{_≡_, refl}
 use mathlib.Core.List.{List}
 use lib.ListN.{getD}
 use Rattle.words.specs.declared.settings.Area.{Area}
 use Rattle.memory.specs.declared.kind.Kind.{Kind}
 use Rattle.memory.specs.Map.{lookupPlace, controlPlace}
 use Rattle.memory.specs.Kind.{cellNumber}
-use Rattle.cells.specs.Cell.{cellAt}
+use Rattle.cells.specs.Cell.{schemeOf, lookupAt, cellFrom, cellAt}
 
 pub cell-words :
     (m n : List ℕ) (area : Area) (kind : Kind) (sub : ℕ) →
@@ -16,3 +16,9 @@ pub cell-words :
     cellAt m area kind sub ≡ cellAt n area kind sub
 unfolding cellAt
 cell-words m n area kind sub e g = rw (e, g)
+
+-- a cell is what its lookup describes
+pub looked-up :
+    (m : List ℕ) (area : Area) (kind : Kind) (sub : ℕ) → cellFrom kind sub (lookupAt m area kind sub) ≡ cellAt m area kind sub
+unfolding schemeOf lookupAt cellFrom cellAt
+looked-up m area kind sub = refl

@@ -10,6 +10,7 @@ use Rattle.memory.specs.declared.kind.Kind.the-variants.{Receive, Transmit, Bro
 use Rattle.cells.specs.declared.cell.Scheme.{Scheme}
 use Rattle.cells.specs.declared.cell.Scheme.the-variants.{Single, Double, Circular}
 use Rattle.cells.specs.declared.cell.Cell.{Cell}
+use Rattle.cells.specs.declared.cell.Lookup.{Lookup}
 use Rattle.windows.specs.declared.window.Window.{Window}
 use Rattle.memory.specs.Map.{lookupPlace, controlPlace}
 use Rattle.memory.specs.Kind.{cellNumber}
@@ -57,6 +58,27 @@ cellAt ram area kind sub =
       scheme = schemeOf (getD ram (controlPlace area sub) 0) kind;
       «circular_interrupt» = eqb (controlPart (getD ram (controlPlace area sub) 0) kind / 8 % 2) 1;
       «end_interrupt» = eqb (controlPart (getD ram (controlPlace area sub) 0) kind / 16 % 2) 1;
+    }
+
+-- what RAM says of that cell: its lookup word, the five bits of its kind, and whether bit 15 doubles it
+unfoldable pub lookupAt : List ℕ → Area → Kind → ℕ → Lookup
+lookupAt ram area kind sub =
+    record {
+      pointer = getD ram (lookupPlace area (cellNumber kind sub)) 0;
+      part = controlPart (getD ram (controlPlace area sub) 0) kind;
+      double = eqb (getD ram (controlPlace area sub) 0 / 32768) 1 && doublesKind kind;
+    }
+
+-- the cell that this describes
+unfoldable pub cellFrom : Kind → ℕ → Lookup → Cell
+cellFrom kind sub l =
+    record {
+      kind = kind;
+      subaddress = sub;
+      pointer = l .pointer;
+      scheme = pickScheme (l .part % 8) (l .double);
+      «circular_interrupt» = eqb (l .part / 8 % 2) 1;
+      «end_interrupt» = eqb (l .part / 16 % 2) 1;
     }
 
 -- single: "the 32 words from the pointer"; double: "the 64 words aligned to 64 around it"; circular: "aligned to that

@@ -2,7 +2,7 @@
 ghost use mathlib.Core.Path.{_≡_};
 ghost use Prim.Native.Nat.{_<_};
 ghost use lib.ListN.{length};
-ghost use Rattle.cells.specs.Cell.{controlShift, controlPart, sizeOf, doublesKind, pickScheme, schemeOf, cellAt, windowOf, doubleFits, soundWithin, soundCell};
+ghost use Rattle.cells.specs.Cell.{controlShift, controlPart, sizeOf, doublesKind, pickScheme, lookupAt, cellFrom, cellAt, windowOf, doubleFits, soundWithin, soundCell};
 use memory::kind::Kind;
 use memory::kind::cell_number;
 use memory::map::control_place;
@@ -34,6 +34,15 @@ pub struct Cell {
     pub circular_interrupt: bool,
     // the end-of-message interrupt bit
     pub end_interrupt: bool,
+}
+
+// What RAM says of a cell.
+pub struct Lookup {
+    pub pointer: u16,
+    // the five bits of its kind in the control word
+    pub part: u16,
+    // whether bit 15 doubles it
+    pub double: bool,
 }
 
 // How far above bit 0 the five bits of a kind stand in a control word.
@@ -84,29 +93,40 @@ fn pick_scheme(m: u16, double: bool) -> Scheme
     Scheme::Circular(size_of(m))
 }
 
-fn scheme_of(control: u16, kind: Kind) -> Scheme
-    ensures { λ r. ⌜ r ≡ schemeOf control kind ⌝ }
+// The words of the cell of this kind and subaddress, as they stand in RAM.
+pub fn lookup_at(ram: &[u16], area: Area, kind: Kind, subaddress: u16) -> Lookup
+    ensures { λ r. ⌜ r ≡ lookupAt (now (ram .entry)) area kind subaddress ⌝ }
 {
-    let part = control_part(control, kind);
-    pick_scheme(part % 8, both(control / 32768 == 1, doubles_kind(kind)))
+    let control = word_at(ram, control_place(area, subaddress));
+    let pointer = word_at(ram, lookup_table(area) + cell_number(kind, subaddress));
+    Lookup {
+        pointer,
+        part: control_part(control, kind),
+        double: both(control / 32768 == 1, doubles_kind(kind)),
+    }
+}
+
+// The cell that these words describe.
+pub fn cell_from(kind: Kind, subaddress: u16, l: Lookup) -> Cell
+    ensures { λ r. ⌜ r ≡ cellFrom kind subaddress l ⌝ }
+{
+    let scheme = pick_scheme(l.part % 8, l.double);
+    Cell {
+        kind,
+        subaddress,
+        pointer: l.pointer,
+        scheme,
+        circular_interrupt: l.part / 8 % 2 == 1,
+        end_interrupt: l.part / 16 % 2 == 1,
+    }
 }
 
 // The cell of this kind and subaddress, as RAM describes it.
 pub fn cell_at(ram: &[u16], area: Area, kind: Kind, subaddress: u16) -> Cell
     ensures { λ r. ⌜ r ≡ cellAt (now (ram .entry)) area kind subaddress ⌝ }
 {
-    let control = word_at(ram, control_place(area, subaddress));
-    let part = control_part(control, kind);
-    let pointer = word_at(ram, lookup_table(area) + cell_number(kind, subaddress));
-    let scheme = scheme_of(control, kind);
-    Cell {
-        kind,
-        subaddress,
-        pointer,
-        scheme,
-        circular_interrupt: part / 8 % 2 == 1,
-        end_interrupt: part / 16 % 2 == 1,
-    }
+    let l = lookup_at(ram, area, kind, subaddress);
+    cell_from(kind, subaddress, l)
 }
 
 // The window of a cell.

@@ -5,7 +5,7 @@ use Rattle.words.proofs.Settled.{determined, Settled}
 use Rattle.copies.proofs.send
 use Rattle.copies.proofs.store
 
-pub store-words-settled : Settled 2 store.store_words.Kinds.ps store.store_words.Kinds.r store.store_words.Reads.Post
+pub store-words-settled : Settled 1 store.store_words.Kinds.ps store.store_words.Kinds.r store.store_words.Reads.Post
 store-words-settled κs a x y v w p q = (refl, λ i. (determined p q i, v .1))
 
 pub send-words-settled : Settled 2 send.send_words.Kinds.ps send.send_words.Kinds.r send.send_words.Reads.Post

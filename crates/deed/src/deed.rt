@@ -1,5 +1,7 @@
 // The deed of an accepted message: what it does in its cell, and what it reports but for the stack.
 ghost use mathlib.Core.Path.{_≡_};
+ghost use mathlib.Core.Bool.{not};
+ghost use Rattle.faults.specs.Fault.{anyFault};
 ghost use Rattle.deed.specs.Deed.{deedWith, isOdd, cleanAct, deedOf};
 use crate::report::block_status;
 use crate::report::status_word;
@@ -48,6 +50,7 @@ pub struct Deed {
 
 // The signals are made in place: the compiler would pack a struct of four bytes that is copied.
 fn deed_with(s: Settings, t: Target, v: Record, a: Act, m: Motion) -> Deed
+    requires { ⌜ a .valid ≡ not (anyFault (a .faults)) ⌝ }
     ensures { λ r. ⌜ r ≡ deedWith s t v a m ⌝ }
 {
     let faults = a.faults;
@@ -65,7 +68,14 @@ fn deed_with(s: Settings, t: Target, v: Record, a: Act, m: Motion) -> Deed
         before: c.pointer,
         moves: m.moves,
         after: m.after,
-        block_status: block_status(bus_b(v), is_transfer(v), faults, m.rollover, t.illegal),
+        block_status: block_status(
+            bus_b(v),
+            is_transfer(v),
+            faults,
+            fault,
+            m.rollover,
+            t.illegal,
+        ),
         status: status_word(s, t, a.valid),
         answered: both(a.valid, no(t.broadcast)),
         signals: Signals {

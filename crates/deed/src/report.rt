@@ -1,24 +1,26 @@
 // Rules 7 and 8: block status and status word.
 ghost use mathlib.Core.Path.{_≡_};
+ghost use Rattle.faults.specs.Fault.{anyFault};
 ghost use Rattle.deed.specs.Report.{blockStatus, statusBits, statusWord};
 use arrival::target::Target;
 use faults::fault::Faults;
-use faults::fault::any_fault;
 use words::bits::word_of;
 use words::choose::either;
 use words::choose::no;
 use words::settings::Settings;
 
+// `fault` tells whether there is any: whoever asks has worked it out.
 pub(crate) fn block_status(
     second_bus: bool,
     transfer: bool,
     f: Faults,
+    fault: bool,
     rollover: bool,
     illegal: bool,
 ) -> u16
+    requires { ⌜ fault ≡ anyFault f ⌝ }
     ensures { λ r. ⌜ r ≡ blockStatus «second_bus» transfer f rollover illegal ⌝ }
 {
-    let fault = any_fault(f);
     word_of([
         true,
         false,

@@ -7,8 +7,8 @@ use Rattle.faults.proofs.fault
 pub faults-of-settled : Settled 0 fault.faults_of.Kinds.ps fault.faults_of.Kinds.r fault.faults_of.Reads.Post
 faults-of-settled κs a x y v w p q = (determined p q, refl)
 
-pub any-fault-settled : Settled 0 fault.any_fault.Kinds.ps fault.any_fault.Kinds.r fault.any_fault.Reads.Post
-any-fault-settled κs a x y v w p q = (determined p q, refl)
+pub at-fault-settled : Settled 0 fault.at_fault.Kinds.ps fault.at_fault.Kinds.r fault.at_fault.Reads.Post
+at-fault-settled κs a x y v w p q = (determined p q, refl)
 
 pub expected-words-settled : Settled 0 fault.expected_words.Kinds.ps fault.expected_words.Kinds.r fault.expected_words.Reads.Post
 expected-words-settled κs a x y v w p q = (determined p q, refl)

@@ -1,3 +1,4 @@
 pub mod Before
 pub mod Failing
+pub mod Parts
 pub mod Determined

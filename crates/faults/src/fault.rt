@@ -69,11 +69,12 @@ pub fn faults_for(broadcast: bool, v: Record) -> Faults
     )
 }
 
-pub fn any_fault(f: Faults) -> bool
-    ensures { λ r. ⌜ r ≡ anyFault f ⌝ }
+// Whether a message has any fault, from its record as it stands: a flag tells one, the count is wrong, or the contents
+// are.
+pub fn at_fault(broadcast: bool, v: Record) -> bool
+    ensures { λ r. ⌜ r ≡ anyFault (faultsFor broadcast v) ⌝ }
 {
-    either(
-        either(either(f.sync, f.invalid), either(f.count, f.contents)),
-        either(f.no_status, either(f.gap, f.second)),
-    )
+    let miscounted = no(v.count as u16 == expected_words(v.command));
+    let contents = both(broadcast, command::transmit(v.command));
+    either(told_fault(v), either(miscounted, contents))
 }

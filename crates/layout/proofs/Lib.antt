@@ -5,6 +5,7 @@ pub mod Turns
 pub mod Cases
 pub mod Places
 pub mod Limits
+pub mod Eights
 pub mod Copied
 pub mod Inverse
 pub mod Trips

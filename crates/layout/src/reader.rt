@@ -1,7 +1,8 @@
 // The record reader: 80 bytes to a value, or refusal 4 or 5.
 ghost use mathlib.Core.Path.{_≡_};
-ghost use Prim.Native.Nat.{_+_, _*_, _/_, _%_, _≤_};
+ghost use Prim.Native.Nat.{_+_, _-_, _*_, _/_, _%_, _<_, _≤_};
 ghost use lib.ListN.{length, getD};
+ghost use Rattle.layout.specs.Fields.{numberAt};
 ghost use Rattle.layout.specs.Layout.{wordAt, areZero, wordsIn, valueIn, breaksLayout, readRecord, notRead};
 ghost use Rattle.layout.specs.Swapped.{swapped};
 ghost use Rattle.words.specs.Fill.{fill};
@@ -98,17 +99,55 @@ fn value_in(s: &[u8]) -> Record
     }
 }
 
+// Eight bytes as a number, high byte first.
+fn join_eight(a: u8, b: u8, c: u8, d: u8, e: u8, f: u8, g: u8, h: u8) -> u64
+    ensures { λ r. ⌜ r ≡ ((((((a * 256 + b) * 256 + c) * 256 + d) * 256 + e) * 256 + f) * 256 + g) * 256 + h ⌝ }
+{
+    let first = ((a as u64 * 256 + b as u64) * 256 + c as u64) * 256 + d as u64;
+    (((first * 256 + e as u64) * 256 + f as u64) * 256 + g as u64) * 256 + h as u64
+}
+
+// The number in eight bytes: for the compiler, one load.
+fn number_of(s: &[u8]) -> u64
+    requires { ⌜ length (now s) ≡ 8 ⌝ }
+    ensures { λ r. ⌜ r ≡ numberAt (now (s .entry)) 0 8 ⌝ }
+{
+    join_eight(s[0], s[1], s[2], s[3], s[4], s[5], s[6], s[7])
+}
+
+fn eight_are_zero(s: &[u8], from: usize) -> bool
+    requires { ⌜ (length (now s) ≡ 80) × (from ≤ 72) ⌝ }
+    ensures { λ r. ⌜ r ≡ areZero (now (s .entry)) from 8 ⌝ }
+{
+    number_of(&s[from..from + 8]) == 0
+}
+
+// Whether all bytes from `from` on are zero, eight at a time. The last eight overlap those before them, so that one
+// shape fits every `from`.
+fn all_are_zero(s: &[u8], from: usize) -> bool
+    requires { ⌜ (length (now s) ≡ 80) × (from ≤ 24) × (16 ≤ from) ⌝ }
+    ensures { λ r. ⌜ r ≡ areZero (now (s .entry)) from (80 - from) ⌝ }
+{
+    both(
+        both(
+            both(eight_are_zero(s, from), eight_are_zero(s, from + 8)),
+            both(eight_are_zero(s, from + 16), eight_are_zero(s, from + 24)),
+        ),
+        both(
+            both(eight_are_zero(s, from + 32), eight_are_zero(s, from + 40)),
+            both(eight_are_zero(s, from + 48), eight_are_zero(s, 72)),
+        ),
+    )
+}
+
 // Whether the words after the count are zero. Each byte is held to a limit, 255 before the count's end and 0 after it:
 // the compiler then compares sixteen bytes at a time.
-fn lasts_are_zero(s: &[u8], count: u8) -> bool
-    requires { ⌜ length (now s) ≡ 80 ⌝ }
+fn lasts_keep_limits(s: &[u8], count: u8) -> bool
+    requires { ⌜ (length (now s) ≡ 80) × (count < 32) ⌝ }
     ensures { λ r. ⌜ r ≡ lastsZero (wordsIn (now (s .entry))) count 32 ⌝ }
 {
     let limits =
         b"\xff\xff\xff\xff\xff\xff\xff\xff\xff\xff\xff\xff\xff\xff\xff\xff\xff\xff\xff\xff\xff\xff\xff\xff\xff\xff\xff\xff\xff\xff\xff\xff\xff\xff\xff\xff\xff\xff\xff\xff\xff\xff\xff\xff\xff\xff\xff\xff\xff\xff\xff\xff\xff\xff\xff\xff\xff\xff\xff\xff\xff\xff\xff\xff\x00\x00\x00\x00\x00\x00\x00\x00\x00\x00\x00\x00\x00\x00\x00\x00\x00\x00\x00\x00\x00\x00\x00\x00\x00\x00\x00\x00\x00\x00\x00\x00\x00\x00\x00\x00\x00\x00\x00\x00\x00\x00\x00\x00\x00\x00\x00\x00\x00\x00\x00\x00\x00\x00\x00\x00\x00\x00\x00\x00\x00\x00\x00\x00";
-    if 32 <= count {
-        return true;
-    }
     let from = 64 - 2 * (count as usize);
     let mut ok = true;
     let mut i: usize = 0;
@@ -117,6 +156,20 @@ fn lasts_are_zero(s: &[u8], count: u8) -> bool
         i += 1;
     }
     ok
+}
+
+// The same, with a shorter way where there are few words, or no word.
+fn lasts_are_zero(s: &[u8], count: u8) -> bool
+    requires { ⌜ length (now s) ≡ 80 ⌝ }
+    ensures { λ r. ⌜ r ≡ lastsZero (wordsIn (now (s .entry))) count 32 ⌝ }
+{
+    if 32 <= count {
+        return true;
+    }
+    if count <= 4 {
+        return all_are_zero(s, 16 + 2 * (count as usize));
+    }
+    lasts_keep_limits(s, count)
 }
 
 fn breaks_layout(s: &[u8], v: Record) -> bool

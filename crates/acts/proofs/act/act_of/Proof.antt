@@ -4,14 +4,14 @@ use Rattle.acts.specs.Act.{actOf}
 use Rattle.acts.proofs.act.act_of.Statement.{statement}
 use Rattle.acts.proofs.act.act_of.Tie as tie
 
-faults-for-requires : tie.Need-faults-for-requires
-faults-for-requires c κs = search needs
-
-any-fault-requires : tie.Need-any-fault-requires
-any-fault-requires c κs = search needs
+at-fault-requires : tie.Need-at-fault-requires
+at-fault-requires c κs = search needs
 
 no-requires : tie.Need-no-requires
 no-requires c κs = search needs
+
+faults-for-requires : tie.Need-faults-for-requires
+faults-for-requires c κs = search needs
 
 act-with-requires : tie.Need-act-with-requires
 act-with-requires c κs = search needs
@@ -21,12 +21,12 @@ unfolding actOf
 returns c =
     rw (
       c .act-with .ensures,
-      c .before .no .ensures,
-      c .before .before .any-fault .ensures,
-      c .before .before .before .faults-for .ensures,
+      c .before .faults-for .ensures,
+      c .before .before .no .ensures,
+      c .before .before .before .at-fault .ensures,
     )
 
 pub act-of-spec : {M : Type 1} → statement M
 act-of-spec =
     tie.close
-    (tie.spec faults-for-requires any-fault-requires no-requires act-with-requires returns)
+    (tie.spec at-fault-requires no-requires faults-for-requires act-with-requires returns)

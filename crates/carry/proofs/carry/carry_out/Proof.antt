@@ -4,9 +4,6 @@ use Rattle.carry.proofs.Carried.{plan-carried}
 use Rattle.carry.proofs.carry.carry_out.Statement.{statement}
 use Rattle.carry.proofs.carry.carry_out.Tie as tie
 
-slice-aggregate-store-words : tie.Need-slice-aggregate-store-words
-slice-aggregate-store-words c = search (needs, c .before .before .before .before .before .before .before .good .1 .1 .1)
-
 store-words-requires : tie.Need-store-words-requires
 store-words-requires c κs = search needs
 
@@ -42,7 +39,6 @@ pub carry-out-spec : {M : Type 1} → statement M
 carry-out-spec =
     tie.close
     (tie.spec
-    slice-aggregate-store-words
     store-words-requires
     move-pointer-requires
     put-entry-requires

@@ -1,56 +1,20 @@
--- `store_words` meets its contract: a single word is one write, two runs are the walk around the window, and word by
--- word it is the walk itself.
+-- `store_words` meets its contract: a single word is one write, and no word is none.
 use borrow.Author.Needs.{needs}
-use native.Mathlib.Omega.{arith}
-use lib.ListN.{length}
-use borrow.Author.Tests.{leb-true}
 use Rattle.memory.specs.Writes.{applyWrites, writesTo}
-use Rattle.copies.proofs.TwoRuns.{goes-once-says, two-runs, stored-in-runs}
 use Rattle.copies.proofs.store.store_words.Statement.{statement}
 use Rattle.copies.proofs.store.store_words.Tie as tie
 
 place-requires : tie.Need-place-requires
 place-requires c κs = search needs
 
-word-at-requires : tie.Need-word-at-requires
-word-at-requires c κs = search needs
+array-read-put : tie.Need-array-read-put
+array-read-put c = search needs
 
 put-requires : tie.Need-put-requires
 put-requires c κs = search needs
 
-goes-once-requires : tie.Need-goes-once-requires
-goes-once-requires c κs = search needs
-
-both-requires : tie.Need-both-requires
-both-requires c κs = search needs
-
-runs-of-requires : tie.Need-runs-of-requires
-runs-of-requires c κs =
-    let s = goes-once-says _ _ _ _ _ _ (c .before .before .goes-once .ensures) (c .before .both .ensures) (c .if2 .taken) in
-    omega (arith, s .0 .inside)
-
-copy-run-requires : tie.Need-copy-run-requires
-copy-run-requires c κs =
-    let b = c .before in
-    let t = b .before in
-    let a = t .before .before .before .before .before .before .args in
-    let s = goes-once-says _ _ _ _ _ _ (t .before .before .goes-once .ensures) (t .before .both .ensures) (t .if2 .taken) in
-    let g = two-runs (a .w) (a .n) _ (s .0 .inside) (s .0 .few) (b .runs-of .ensures) in
-    let r = leb-true (a .n) (length (a .words .now)) (s .1) in
-    (omega (arith, s .0 .fits, g .first-end), omega (arith, r, g .all))
-
-copy-run-requires-2 : tie.Need-copy-run-requires-2
-copy-run-requires-2 c κs =
-    let b = c .before .before .before .before .before in
-    let t = b .before in
-    let a = t .before .before .before .before .before .before .args in
-    let s = goes-once-says _ _ _ _ _ _ (t .before .before .goes-once .ensures) (t .before .both .ensures) (t .if2 .taken) in
-    let g = two-runs (a .w) (a .n) _ (s .0 .inside) (s .0 .few) (b .runs-of .ensures) in
-    let r = leb-true (a .n) (length (a .words .now)) (s .1) in
-    (omega (arith, s .0 .fits, g .second-end), omega (arith, r, g .all))
-
-store-each-requires : tie.Need-store-each-requires
-store-each-requires c κs = search needs
+store-runs-requires : tie.Need-store-runs-requires
+store-runs-requires c κs = search needs
 
 same-length : tie.Need-same-length
 same-length c = search needs
@@ -59,45 +23,29 @@ returns : tie.Need-returns
 unfolding applyWrites writesTo
 returns c =
     let put = c .before .before in
-    let at = put .before .before in
-    rw (put .put .ensures, put .before .word-at .ensures, at .place .ensures, at .before .before .if1 .taken)
+    let at = put .before in
+    rw (put .put .ensures, at .place .ensures, at .before .before .if1 .taken)
 
 same-length-2 : tie.Need-same-length-2
 same-length-2 c = search needs
 
 returns-2 : tie.Need-returns-2
-returns-2 c =
-    let second = c .before .before in
-    let first = second .before .before .before .before in
-    let b = first .before .before in
-    let t = b .before in
-    let a = t .before .before .before .before .before .before .args in
-    let s = goes-once-says _ _ _ _ _ _ (t .before .before .goes-once .ensures) (t .before .both .ensures) (t .if2 .taken) in
-    let g = two-runs (a .w) (a .n) _ (s .0 .inside) (s .0 .few) (b .runs-of .ensures) in
-    stored-in-runs (a .w) (a .n) _ g (a .words .now) (a .ram .now) _ _ (first .copy-run .ensures) (second .copy-run2 .ensures)
-
-same-length-3 : tie.Need-same-length-3
-same-length-3 c = search needs
+returns-2 c = search needs
 
 returns-3 : tie.Need-returns-3
-returns-3 c = search needs
+unfolding applyWrites writesTo
+returns-3 c = rw (c .if2 .left)
 
 pub store-words-spec : {M : Type 1} → statement M
 store-words-spec =
     tie.close
     (tie.spec
     place-requires
-    word-at-requires
+    array-read-put
     put-requires
-    goes-once-requires
-    both-requires
-    runs-of-requires
-    copy-run-requires
-    copy-run-requires-2
-    store-each-requires
+    store-runs-requires
     same-length
     returns
     same-length-2
     returns-2
-    same-length-3
     returns-3)

@@ -1,6 +1,8 @@
 -- `deed_of` meets its contract: act, motion, and the parts made of them, of a clean message and of any other.
 use borrow.Author.Needs.{needs}
-use Rattle.deed.specs.Deed.{deedOf}
+use Rattle.faults.specs.Fault.{anyFault}
+use Rattle.acts.specs.Act.{actWith, actOf}
+use Rattle.deed.specs.Deed.{cleanAct, deedOf}
 use Rattle.deed.proofs.Clean.{not-odd}
 use Rattle.deed.proofs.deed.deed_of.Statement.{statement}
 use Rattle.deed.proofs.deed.deed_of.Tie as tie
@@ -27,7 +29,8 @@ motion-of-requires : tie.Need-motion-of-requires
 motion-of-requires c κs = search needs
 
 deed-with-requires : tie.Need-deed-with-requires
-deed-with-requires c κs = search needs
+unfolding anyFault cleanAct
+deed-with-requires c κs = rw (c .before .clean-act .ensures)
 
 returns : tie.Need-returns
 unfolding deedOf
@@ -54,7 +57,8 @@ motion-of-requires-2 : tie.Need-motion-of-requires-2
 motion-of-requires-2 c κs = search needs
 
 deed-with-requires-2 : tie.Need-deed-with-requires-2
-deed-with-requires-2 c κs = search needs
+unfolding actOf actWith
+deed-with-requires-2 c κs = rw (c .before .act-of .ensures)
 
 returns-2 : tie.Need-returns-2
 unfolding deedOf

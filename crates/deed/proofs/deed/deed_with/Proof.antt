@@ -1,8 +1,14 @@
 -- `deed_with` meets its contract: the parts by name, and the four signals.
 use borrow.Author.Needs.{needs}
+use mathlib.Core.Path.{_≡_, refl}
+use mathlib.Core.Bool.{Bool, true, false, not}
 use Rattle.deed.specs.Deed.{signalsOf, deedWith}
 use Rattle.deed.proofs.deed.deed_with.Statement.{statement}
 use Rattle.deed.proofs.deed.deed_with.Tie as tie
+
+not-not : (b : Bool) → not (not b) ≡ b
+not-not true = refl
+not-not false = refl
 
 both-requires : tie.Need-both-requires
 both-requires c κs = search needs
@@ -17,7 +23,9 @@ is-transfer-requires : tie.Need-is-transfer-requires
 is-transfer-requires c κs = search needs
 
 block-status-requires : tie.Need-block-status-requires
-block-status-requires c κs = search needs
+block-status-requires c κs =
+    let made = c .before .before in
+    rw (made .no .ensures, made .before .before .before .before .before .pre) (not-not _)
 
 status-word-requires : tie.Need-status-word-requires
 status-word-requires c κs = search needs

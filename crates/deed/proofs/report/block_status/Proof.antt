@@ -4,15 +4,12 @@ use Rattle.deed.specs.Report.{blockStatus}
 use Rattle.deed.proofs.report.block_status.Statement.{statement}
 use Rattle.deed.proofs.report.block_status.Tie as tie
 
-any-fault-requires : tie.Need-any-fault-requires
-any-fault-requires c κs = search needs
-
 word-of-requires : tie.Need-word-of-requires
 word-of-requires c κs = search needs
 
 returns : tie.Need-returns
 unfolding blockStatus
-returns c = rw (c .word-of .ensures, c .before .any-fault .ensures)
+returns c = rw (c .word-of .ensures, c .before .pre)
 
 pub block-status-spec : {M : Type 1} → statement M
-block-status-spec = tie.close (tie.spec any-fault-requires word-of-requires returns)
+block-status-spec = tie.close (tie.spec word-of-requires returns)

@@ -1,82 +1,46 @@
--- `lasts_are_zero` meets its contract. The loop's invariant: `ok` tells whether the first `i` bytes keep their limits.
+-- `lasts_are_zero` meets its contract, by each of its ways.
 use borrow.Author.Needs.{needs}
-use Prim.Native.Nat.{_≤_, _-_}
 use native.Mathlib.Omega.{arith}
-use mathlib.Core.Path.{_≡_, refl, sym, _∙_}
+use mathlib.Core.Path.{sym, _∙_}
 use Rattle.records.proofs.Turns.{lasts-zero-none}
 use Rattle.layout.specs.Layout.{wordsIn}
-use Rattle.layout.proofs.Limits.{within, within-more, within-all}
+use Rattle.layout.proofs.Eights.{lasts-zero-bytes}
 use Rattle.layout.proofs.reader.lasts_are_zero.Statement.{statement}
 use Rattle.layout.proofs.reader.lasts_are_zero.Tie as tie
 
-abbrev Inv-loop : tie.InvT-loop
-Inv-loop s count limits from ok₀ i₀ ok i = (i ≤ 64) × (ok ≡ within s limits from i)
-
-abbrev μ-loop : tie.MeasureT-loop
-μ-loop s count limits from ok₀ i₀ ok i = 64 - i
-
-returns : tie.Need-returns Inv-loop μ-loop
+returns : tie.Need-returns
 returns c =
-    let a = c .before .before .before .args in
+    let a = c .before .before .args in
     sym (lasts-zero-none (wordsIn (a .s .now)) (a .count) 32 (c .if1 .taken))
 
-mul-from : tie.Need-mul-from Inv-loop μ-loop
-mul-from c = search needs
+mul-all-are-zero : tie.Need-mul-all-are-zero
+mul-all-are-zero c = search needs
 
-sub-from : tie.Need-sub-from Inv-loop μ-loop
-sub-from c = search needs
+add-all-are-zero : tie.Need-add-all-are-zero
+add-all-are-zero c = search needs
 
-loop-holds : tie.Need-loop-holds Inv-loop μ-loop
-unfolding within
-loop-holds c = (omega arith, refl)
+all-are-zero-requires : tie.Need-all-are-zero-requires
+all-are-zero-requires c κs = search needs
 
-add-both : tie.Need-add-both Inv-loop μ-loop
-add-both c = search needs
-
-shared-slice-read-both : tie.Need-shared-slice-read-both Inv-loop μ-loop
-shared-slice-read-both c = search needs
-
-add-both-2 : tie.Need-add-both-2 Inv-loop μ-loop
-add-both-2 c = search needs
-
-element-copy-out-both : tie.Need-element-copy-out-both Inv-loop μ-loop
-element-copy-out-both c = search needs
-
-both-requires : tie.Need-both-requires Inv-loop μ-loop
-both-requires c κs = search needs
-
-add-i : tie.Need-add-i Inv-loop μ-loop
-add-i c = search needs
-
-loop-less : tie.Need-loop-less Inv-loop μ-loop
-loop-less c = search needs
-
-loop-again : tie.Need-loop-again Inv-loop μ-loop
-loop-again c = (omega arith, rw (within-more, c .both .ensures, c .before .before .before .before .loop .inv .1))
-
-returns-2 : tie.Need-returns-2 Inv-loop μ-loop
+returns-2 : tie.Need-returns-2
 returns-2 c =
-    let a = c .before .before .before .before .before .args in
-    let byte = c .before .before .before .before .shared-slice-known .given in
-    let e : c .before .loop .i ≡ 64 = omega arith in
-    rw e at (c .before .loop .inv .1) ∙ within-all (a .s .now) (a .count) _ (λ k. omega (arith, byte k)) (omega arith)
+    let a = c .before .before .before .before .args in
+    c .all-are-zero .ensures ∙ lasts-zero-bytes (a .s .now) (a .count) (omega arith)
+
+lasts-keep-limits-requires : tie.Need-lasts-keep-limits-requires
+lasts-keep-limits-requires c κs = search needs
+
+returns-3 : tie.Need-returns-3
+returns-3 c = search needs
 
 pub lasts-are-zero-spec : {M : Type 1} → statement M
 lasts-are-zero-spec =
     tie.close
     (tie.spec
-    Inv-loop
-    μ-loop
     returns
-    mul-from
-    sub-from
-    loop-holds
-    add-both
-    shared-slice-read-both
-    add-both-2
-    element-copy-out-both
-    both-requires
-    add-i
-    loop-less
-    loop-again
-    returns-2)
+    mul-all-are-zero
+    add-all-are-zero
+    all-are-zero-requires
+    returns-2
+    lasts-keep-limits-requires
+    returns-3)
