@@ -43,16 +43,20 @@ pub extern "C" fn solkverva_read(bytes: &[u8], value: &mut [u16]) -> u16
     r.number
 }
 
-// The record writer.
+// The record writer. A refusal goes back apart, so that the compiler works nothing out for both.
 #[no_mangle]
 pub extern "C" fn solkverva_write(value: &[u16], bytes: &mut [u8]) -> u16
     ensures number { λ r. ⌜ r ≡ writeRecord (valueFrom (now (value .entry))) .number ⌝ }
     ensures bytes { λ r. ⌜ now (bytes .exit) ≡ over (now (bytes .entry)) (writeRecord (valueFrom (now (value .entry))) .bytes) ⌝ }
 {
     let w = write(value_from(value));
+    if w.number != 0 {
+        put_bytes(bytes, [0u8; 80]);
+        return w.number;
+    }
     let written = w.bytes;
     put_bytes(bytes, written);
-    w.number
+    0
 }
 
 // The label of one cell: how many cells share words with it, and each with its mark.

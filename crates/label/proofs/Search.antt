@@ -1,23 +1,21 @@
 -- The search by one window, kind by kind, finds the cells that meet.
 use Prim.Native.Nat.{ℕ, zero, suc, _+_, _*_, _%_, _<_, _≤_}
-use native.Mathlib.Nat.{add-zero, add-suc, zero-add}
+use native.Mathlib.Nat.{add-zero, add-suc}
 use native.Mathlib.Omega.{arith}
 use mathlib.Core.Path.{_≡_, refl, sym, ap, _∙_}
-use mathlib.Core.Logic.{⊎-elim}
 use mathlib.Core.Bool.{Bool, true, false, not, cond, _&&_, and-false, and-true}
-use mathlib.Core.List.{List, [], _∷_, _++_, map, map-append, map-id, append-nil, append-assoc}
+use mathlib.Core.List.{List, [], _∷_, _++_, map, map-append, append-nil, append-assoc}
 use lib.ListN.{length, length-append, length-map}
 use lib.Seq.{sets}
-use lib.Dec.{eqb, ltb, leb}
+use lib.Dec.{eqb, leb}
 use borrow.Author.Tests.{lt-ltb, le-ltb, le-leb}
 use Rattle.words.specs.declared.settings.Settings.{Settings}
 use Rattle.words.specs.Settings.{hasBroadcastCells}
 use Rattle.words.proofs.Basics.{not-both}
 use Rattle.memory.specs.declared.kind.Kind.{Kind}
 use Rattle.memory.specs.declared.kind.Kind.the-variants.{Receive, Transmit, Broadcast}
-use Rattle.memory.specs.Kind.{kindNumber, cellNumber}
+use Rattle.memory.specs.Kind.{cellNumber}
 use Rattle.memory.specs.Map.{ramRefused}
-use Rattle.memory.proofs.Numbers.{number-sub}
 use Rattle.windows.specs.declared.window.Window.{Window}
 use Rattle.windows.specs.Window.{windowsMeet}
 use Rattle.cells.specs.Cell.{cellAt, cellWindow, soundCell}

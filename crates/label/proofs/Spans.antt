@@ -2,7 +2,7 @@
 -- none.
 use Prim.Native.Nat.{ℕ, _+_, _-_, _<_, _≤_}
 use native.Mathlib.Omega.{arith}
-use mathlib.Core.Path.{_≡_, refl, sym, _∙_}
+use mathlib.Core.Path.{_≡_, refl, sym}
 use mathlib.Core.Logic.{⊎-elim}
 use mathlib.Core.Bool.{Bool, true, false, not, cond, _&&_, and-false}
 use mathlib.Core.List.{List}
@@ -24,8 +24,8 @@ use Rattle.area.proofs.Listed.{read-listed}
 use Rattle.spans.specs.declared.span.Span.{Span}
 use Rattle.label.specs.Listing.{above, passing, pairsBelow}
 use Rattle.spans.specs.Span.{windowNumbered, readAndSound, spanOfWindow, noSpan, spanOf, startsInto, endsInto, spansMeet, spanAt, placesMeet, readInVain, readEnd}
-use Rattle.label.specs.Label.{takesPart, cellsMeet, meetingCells, meetingPairs, unsoundCells}
-use Rattle.label.proofs.Turns.{passing-same, passing-stays, pairs-same, pairs-stay}
+use Rattle.label.specs.Label.{takesPart, cellsMeet, meetingPairs, unsoundCells}
+use Rattle.label.proofs.Turns.{passing-same, pairs-same, pairs-stay}
 use Rattle.label.proofs.Meeting.{TakesPart, part-facts}
 
 -- ---- two spans

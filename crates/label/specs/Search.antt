@@ -9,7 +9,6 @@ use Rattle.memory.specs.declared.kind.Kind.{Kind}
 use Rattle.memory.specs.Kind.{cellNumber}
 use Rattle.windows.specs.declared.window.Window.{Window}
 use Rattle.windows.specs.Window.{windowsMeet}
-use Rattle.cells.specs.declared.cell.Cell.{Cell}
 use Rattle.cells.specs.Cell.{cellAt, cellWindow, soundCell}
 use Rattle.label.specs.Listing.{passing}
 
