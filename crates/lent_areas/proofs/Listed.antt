@@ -114,7 +114,7 @@ module _ (ram : List ℕ) (s : Settings) (cell : ℕ) (c : Counted) (e : c ≡ c
   found-number = rw e
 
   pub found-words :
-      (numbers : List ℕ) → numbers ≡ sets (replicate 89 0) 0 (sharersOf ram s cell) →
-      listingWords (cellAnswer 0 (front numbers (min (c .count) 89))) ≡ listingWords (cellLabel ram s cell)
+      (numbers xs : List ℕ) → numbers ≡ sets (replicate 89 0) 0 (sharersOf ram s cell) →
+      over xs (listingWords (cellAnswer 0 (front numbers (min (c .count) 89)))) ≡ over xs (listingWords (cellLabel ram s cell))
   unfolding listingWords cellLabel cellAnswer
-  found-words numbers p = rw (min-eq-left (counted-most ram s cell c e), counted-front ram s cell c e numbers p)
+  found-words numbers xs p = rw (min-eq-left (counted-most ram s cell c e), counted-front ram s cell c e numbers p)

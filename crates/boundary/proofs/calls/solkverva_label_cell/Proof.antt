@@ -24,7 +24,7 @@ returns c =
     let s = found .before .before .settings-from .ensures in
     let counted = rw s at (found .find-sharers .ensures .0) in
     let numbers = rw s at (found .find-sharers .ensures .1) in
-    (found-number _ _ _ _ counted, put .put-found .ensures ∙ rw (found-words _ _ _ _ counted _ numbers))
+    (found-number _ _ _ _ counted, put .put-found .ensures ∙ found-words _ _ _ _ counted _ _ numbers)
 
 pub solkverva-label-cell-spec : {M : Type 1} → statement M
 solkverva-label-cell-spec =

@@ -43,12 +43,13 @@ returns-2 c =
     let asked = met .before in
     let meet = asked .before in
     let window = meet .before in
+    let a = window .before .before .before .args in
     rw (
       ← (window .before .cell-at .ensures),
       ← (window .window-of .ensures),
       ← (meet .windows-meet .ensures),
       not-false (meet .windows-meet .result) (sym (asked .no .ensures) ∙ met .if1 .left),
-      eq-eqb _ _ (sym (numbered .cell-number .ensures) ∙ c .if2 .taken),
+      eq-eqb _ (a .cell) (sym (numbered .cell-number .ensures) ∙ c .if2 .taken),
     )
 
 sound-within-requires : tie.Need-sound-within-requires
@@ -63,12 +64,13 @@ returns-3 c =
     let asked = met .before in
     let meet = asked .before in
     let window = meet .before in
+    let a = window .before .before .before .args in
     rw (
       ← (window .before .cell-at .ensures),
       ← (window .window-of .ensures),
       ← (meet .windows-meet .ensures),
       not-false (meet .windows-meet .result) (sym (asked .no .ensures) ∙ met .if1 .left),
-      ne-eqb _ _ (λ e. other .if2 .left (numbered .cell-number .ensures ∙ e)),
+      ne-eqb _ (a .cell) (λ e. other .if2 .left (numbered .cell-number .ensures ∙ e)),
       c .sound-within .ensures,
     )
 
