@@ -10,8 +10,7 @@ ghost use Rattle.lent_areas.specs.Check.{checkWord};
 ghost use Rattle.lent_messages.specs.Values.{valueFrom, valueWords};
 ghost use Rattle.lent_areas.specs.Labels.{listingWords, countWords};
 use area::area::check_area;
-use label::one::cell_refusal;
-use label::one::list_sharers;
+use label::one::find_sharers;
 use label::whole::label_area;
 use layout::reader::read;
 use layout::writer::write;
@@ -20,8 +19,7 @@ use lent::setup::settings_from;
 use lent_areas::checks::check_word;
 use lent_areas::labels::put_cells;
 use lent_areas::labels::put_counts;
-use lent_areas::labels::put_listing;
-use lent_areas::labels::put_no_listing;
+use lent_areas::labels::put_found;
 use lent_messages::values::put_value;
 use lent_messages::values::value_from;
 
@@ -45,16 +43,20 @@ pub extern "C" fn solkverva_read(bytes: &[u8], value: &mut [u16]) -> u16
     r.number
 }
 
-// The record writer.
+// The record writer. A refusal goes back apart, so that the compiler works nothing out for both.
 #[no_mangle]
 pub extern "C" fn solkverva_write(value: &[u16], bytes: &mut [u8]) -> u16
     ensures number { λ r. ⌜ r ≡ writeRecord (valueFrom (now (value .entry))) .number ⌝ }
     ensures bytes { λ r. ⌜ now (bytes .exit) ≡ over (now (bytes .entry)) (writeRecord (valueFrom (now (value .entry))) .bytes) ⌝ }
 {
     let w = write(value_from(value));
+    if w.number != 0 {
+        put_bytes(bytes, [0u8; 80]);
+        return w.number;
+    }
     let written = w.bytes;
     put_bytes(bytes, written);
-    w.number
+    0
 }
 
 // The label of one cell: how many cells share words with it, and each with its mark.
@@ -68,15 +70,10 @@ pub extern "C" fn solkverva_label_cell(
     ensures number { λ r. ⌜ r ≡ cellLabel (now (ram .entry)) (settingsFrom (now (settings .entry))) cell .number ⌝ }
     ensures listing { λ r. ⌜ now (listing .exit) ≡ over (now (listing .entry)) (listingWords (cellLabel (now (ram .entry)) (settingsFrom (now (settings .entry))) cell)) ⌝ }
 {
-    let s = settings_from(settings);
-    let number = cell_refusal(ram, s, cell);
-    if number != 0 {
-        put_no_listing(listing);
-        return number;
-    }
-    let label = list_sharers(ram, s, cell);
-    put_listing(listing, label);
-    0
+    let mut numbers = [0u16; 89];
+    let found = find_sharers(ram, settings_from(settings), cell, &mut numbers);
+    put_found(listing, &numbers, found.count);
+    found.number
 }
 
 // The label of the whole area: how many cells are unsound and how many pairs there are, the unsound cells, and the

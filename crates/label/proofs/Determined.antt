@@ -6,11 +6,9 @@ use Rattle.words.proofs.Settled.{determined, Settled}
 use Rattle.label.proofs.one
 use Rattle.label.proofs.whole
 
-pub list-sharers-settled : Settled 1 one.list_sharers.Kinds.ps one.list_sharers.Kinds.r one.list_sharers.Reads.Post
-list-sharers-settled κs a x y v w p q = (determined p q, refl)
-
-pub cell-refusal-settled : Settled 1 one.cell_refusal.Kinds.ps one.cell_refusal.Kinds.r one.cell_refusal.Reads.Post
-cell-refusal-settled κs a x y v w p q = (determined p q, refl)
+pub find-sharers-settled : Settled 2 one.find_sharers.Kinds.ps one.find_sharers.Kinds.r one.find_sharers.Reads.Post
+find-sharers-settled κs a x y v w p q =
+    (determined (p .0) (q .0), λ i. (v .0, (v .1 .0, (v .1 .1 .0, (determined (p .1) (q .1) i, v .1 .1 .1 .1)))))
 
 pub label-cell-settled : Settled 1 one.label_cell.Kinds.ps one.label_cell.Kinds.r one.label_cell.Reads.Post
 label-cell-settled κs a x y v w p q = (determined p q, refl)

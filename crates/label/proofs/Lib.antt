@@ -3,10 +3,12 @@ pub mod Turns
 pub mod Meeting
 pub mod Most
 pub mod Spans
+pub mod Search
 pub mod Refused
 pub mod Members
 pub mod Shared
 pub mod Answers
+pub mod Found
 pub mod Named
 pub mod BroadcastOff
 pub mod Determined

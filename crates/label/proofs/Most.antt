@@ -140,14 +140,6 @@ module _ (ram : List ℕ) (s : Settings) where
   unfolding meetingCells cellsMeet
   apart-meets-none cell e = passing-none (cellsMeet ram s cell) 96 (λ k l. rw e)
 
-  -- and so a number that is no cell's
-  pub past-meets-none : (cell : ℕ) → 96 ≤ cell → meetingCells ram s cell ≡ []
-  past-meets-none cell h =
-      ⊎-elim
-      (λ (e : takesPart ram s cell ≡ true). absurd (omega (arith, h, part-below ram s cell e)))
-      (apart-meets-none cell)
-      (yes-or-no (takesPart ram s cell))
-
   pub meeting-most : (cell : ℕ) → length (meetingCells ram s cell) ≤ 89
   meeting-most cell =
       ⊎-elim (part-most cell)

@@ -2,7 +2,7 @@
 -- none.
 use Prim.Native.Nat.{ℕ, _+_, _-_, _<_, _≤_}
 use native.Mathlib.Omega.{arith}
-use mathlib.Core.Path.{_≡_, refl, sym, _∙_}
+use mathlib.Core.Path.{_≡_, refl, sym}
 use mathlib.Core.Logic.{⊎-elim}
 use mathlib.Core.Bool.{Bool, true, false, not, cond, _&&_, and-false}
 use mathlib.Core.List.{List}
@@ -23,9 +23,9 @@ use Rattle.area.specs.Area.{isRead, cellNumbered, isUnsound}
 use Rattle.area.proofs.Listed.{read-listed}
 use Rattle.spans.specs.declared.span.Span.{Span}
 use Rattle.label.specs.Listing.{above, passing, pairsBelow}
-use Rattle.spans.specs.Span.{windowNumbered, readAndSound, spanOfWindow, noSpan, spanOf, startsInto, endsInto, spansMeet, spanAt, placesMeet, otherMeets, readInVain, readEnd}
-use Rattle.label.specs.Label.{takesPart, cellsMeet, meetingCells, meetingPairs, unsoundCells}
-use Rattle.label.proofs.Turns.{passing-same, passing-stays, pairs-same, pairs-stay}
+use Rattle.spans.specs.Span.{windowNumbered, readAndSound, spanOfWindow, noSpan, spanOf, startsInto, endsInto, spansMeet, spanAt, placesMeet, readInVain, readEnd}
+use Rattle.label.specs.Label.{takesPart, cellsMeet, meetingPairs, unsoundCells}
+use Rattle.label.proofs.Turns.{passing-same, pairs-same, pairs-stay}
 use Rattle.label.proofs.Meeting.{TakesPart, part-facts}
 
 -- ---- two spans
@@ -71,13 +71,6 @@ pub turn-above :
     above (placesMeet starts ends) lower higher ≡ met
 unfolding placesMeet
 turn-above starts ends lower higher own met l o e = rw (lt-ltb lower higher l, e, o)
-
-pub turn-other :
-    (starts ends : List ℕ) (cell other : ℕ) (own : Span) (met asked : Bool) → own ≡ spanAt starts ends cell →
-    met ≡ spansMeet own (spanAt starts ends other) → asked ≡ (not (eqb other cell) && met) →
-    otherMeets starts ends cell other ≡ asked
-unfolding otherMeets placesMeet
-turn-other starts ends cell other own met asked o e a = rw (a, e, o)
 
 pub turn-vain :
     (s : Settings) (ends : List ℕ) (n : ℕ) (read asked : Bool) → read ≡ isRead s n →
@@ -126,16 +119,12 @@ module _ (ram : List ℕ) (s : Settings) where
   start-at n h = fill-at (λ k. span k .start) (replicate 96 0) 96 n (rw length-replicate (omega arith)) h
 
   -- two cells of the table meet, if they are not the same
-  others-cells : (cell other : ℕ) → cell < 96 → other < 96 → otherMeets starts ends cell other ≡ cellsMeet ram s cell other
-  unfolding otherMeets placesMeet
-  others-cells cell other k h =
-      rw (start-at cell k, end-at cell k, start-at other h, end-at other h) (spans-cells cell other)
-
   pub places-cells : (cell other : ℕ) → cell < other → other < 96 → placesMeet starts ends cell other ≡ cellsMeet ram s cell other
-  unfolding otherMeets
+  unfolding placesMeet
   places-cells cell other l h =
+      let k : cell < 96 = omega arith in
       let d : eqb other cell ≡ false = ne-eqb other cell (λ e. omega arith) in
-      rw d at (others-cells cell other (omega arith) h)
+      rw (start-at cell k, end-at cell k, start-at other h, end-at other h) (rw d at (spans-cells cell other))
 
   -- a cell that is read and has no span is unsound
   pub in-vain : (n : ℕ) → n < 96 → readInVain s ends n ≡ isUnsound ram s (stackWindow ram s) n
@@ -175,17 +164,6 @@ module _ (ram : List ℕ) (s : Settings) where
       (pairs-stay (cellsMeet ram s) end (96 - end) (λ k l h. rw (past-apart l h, and-false (takesPart ram s k)))
       (λ k l h. rw (past-apart k h)) (96 - end))
 
-  -- so that a listing may stop there
-  read-meeting : (cell : ℕ) → passing (cellsMeet ram s cell) (readEnd s) ≡ meetingCells ram s cell
-  unfolding meetingCells cellsMeet
-  read-meeting cell =
-      let end = readEnd s in
-      let whole : end + (96 - end) ≡ 96 = omega (arith, end-small) in
-      sym
-      (rw whole at
-      (passing-stays (cellsMeet ram s cell) end (96 - end)
-      (λ k l h. rw (past-apart k l, and-false (takesPart ram s cell)))))
-
   -- so the table gives the label's lists
   pub table-pairs :
       (b e : List ℕ) (end : ℕ) → b ≡ starts → e ≡ ends → end ≡ readEnd s →
@@ -195,15 +173,6 @@ module _ (ram : List ℕ) (s : Settings) where
       rw (p, q, r, read-pairs)
       (pairs-same (placesMeet starts ends) (cellsMeet ram s) (readEnd s) (readEnd s)
       (λ k l j h. places-cells k l j (omega (arith, end-small))))
-
-  pub table-meeting :
-      (b e : List ℕ) (end cell : ℕ) → b ≡ starts → e ≡ ends → end ≡ readEnd s → cell < 96 →
-      passing (otherMeets b e cell) end ≡ meetingCells ram s cell
-  table-meeting b e end cell p q r h =
-      rw (p, q, r)
-      (passing-same (otherMeets starts ends cell) (cellsMeet ram s cell) (readEnd s)
-      (λ k l. others-cells cell k h (omega (arith, end-small)))
-      ∙ read-meeting cell)
 
   pub table-unsound : (e : List ℕ) → e ≡ ends → passing (readInVain s e) 96 ≡ unsoundCells ram s
   unfolding unsoundCells

@@ -7,13 +7,13 @@ use mathlib.Core.Path.{_≡_, refl, _∙_}
 use mathlib.Core.Logic.{⊎-elim}
 use mathlib.Core.Bool.{Bool, true, false, cond, and-false}
 use mathlib.Core.List.{List, [], _∷_, _++_, map, map-append, map-id, map-map, append-nil}
-use lib.ListN.{length, set, length-append, length-map, replicate}
-use lib.Seq.{sets}
+use lib.ListN.{length, getD, set, take, drop, length-append, length-map, replicate}
+use lib.Seq.{sets, sets-eq, length-sets, take-suc, take-append-seam}
 use lib.Dec.{ltb}
 use borrow.Author.Tests.{le-ltb}
 use Rattle.words.proofs.Basics.{lt-or-ge}
 use Rattle.label.specs.declared.one.Sharer.{Sharer}
-use Rattle.label.specs.Listing.{Pair, pairOf, above, passing, pairsWith, pairsBelow, pairWord, pairWords}
+use Rattle.label.specs.Listing.{Pair, pairOf, above, front, passing, pairsWith, pairsBelow, pairWord, pairWords}
 use Rattle.label.specs.Label.{sharerNumbered, noSharer, cellAnswer, areaAnswer}
 use Rattle.label.proofs.Stored.{run-append, run-more}
 
@@ -179,11 +179,40 @@ module _ {A : Type 0} (f : ℕ → A) (t : ℕ → Bool) (n used : ℕ) (room no
 
 -- ---- the answers that hold what is listed
 
-pub sharers-told :
-    (t : ℕ → Bool) (n : ℕ) (cells : List Sharer) (count : ℕ) → Run sharerNumbered t n 0 (replicate 89 noSharer) cells count →
-    record { number = 0; count = count; cells = cells } ≡ cellAnswer 0 (passing t n)
+pub length-first : (numbers : List ℕ) (n : ℕ) → length (front numbers n) ≡ n
+unfolding front
+length-first numbers zero = refl
+length-first numbers (suc n) = rw length-append (omega (arith, length-first numbers n))
+
+-- one number more of those that are listed
+pub front-more :
+    {A : Type 0} (f : ℕ → A) (room : List A) (numbers : List ℕ) (k : ℕ) →
+    set (sets room 0 (map f (front numbers k))) k (f (getD numbers k 0)) ≡ sets room 0 (map f (front numbers (k + 1)))
+unfolding front
+front-more f room numbers k =
+    let before = front numbers k in
+    let m = run-more room (map f before) (f (getD numbers k 0)) 0 in
+    let long : 0 + length (map f before) ≡ k = zero-add _ ∙ length-map before f ∙ length-first numbers k in
+    rw (add-one, map-append f before (getD numbers k 0 ∷ []), ← m, long)
+
+pub front-told :
+    (number : ℕ) (numbers : List ℕ) (k count : ℕ) (cells : List Sharer) → k ≡ count →
+    cells ≡ sets (replicate 89 noSharer) 0 (map sharerNumbered (front numbers k)) →
+    record { number = number; count = count; cells = cells } ≡ cellAnswer number (front numbers count)
 unfolding cellAnswer
-sharers-told t n cells count run = rw (run .words, run .place, zero-add (length (passing t n)))
+front-told number numbers k count cells e p = rw (p, e, length-first numbers count)
+
+first-take : (numbers : List ℕ) (n : ℕ) → n ≤ length numbers → front numbers n ≡ take n numbers
+unfolding front
+first-take numbers zero h = refl
+first-take numbers (suc n) h = rw (first-take numbers n (omega arith), take-suc numbers n 0 h)
+
+-- what was put at the front of a list is read there
+pub front-back :
+    (room listed : List ℕ) → length listed ≤ length room → front (sets room 0 listed) (length listed) ≡ listed
+front-back room listed h =
+    first-take (sets room 0 listed) (length listed) (rw length-sets h)
+    ∙ rw (sets-eq listed room 0 (omega arith)) (take-append-seam listed (drop (0 + length listed) room))
 
 abbrev pub itself : ℕ → ℕ
 itself n = n

@@ -14,6 +14,7 @@ use Rattle.cells.specs.Stack.{stackWindow}
 use Rattle.area.specs.Area.{isUnsound, groundTests, groundRefusal}
 use Rattle.label.specs.declared.one.Sharer.{Sharer}
 use Rattle.label.specs.declared.one.CellLabel.{CellLabel}
+use Rattle.label.specs.declared.one.Counted.{Counted}
 use Rattle.label.specs.declared.whole.AreaLabel.{AreaLabel}
 use Rattle.label.specs.Listing.{Pair, passing, pairsBelow, pairWords}
 use Rattle.spans.specs.Mark.{ableToWrite}
@@ -59,6 +60,14 @@ cellRefusal ram s cell = firstOf (cellTests ram s cell)
 abbrev pub unlessRefused : {A : Type 0} → ℕ → List A → List A
 unlessRefused number listed = cond (eqb number 0) listed []
 
+-- the cells that are listed for this one
+abbrev pub sharersOf : List ℕ → Settings → ℕ → List ℕ
+sharersOf ram s cell = unlessRefused (cellRefusal ram s cell) (meetingCells ram s cell)
+
+-- the number, and how many cells are listed
+unfoldable pub countedOf : List ℕ → Settings → ℕ → Counted
+countedOf ram s cell = record { number = cellRefusal ram s cell; count = length (sharersOf ram s cell) }
+
 -- the answer that lists these cells
 unfoldable pub cellAnswer : ℕ → List ℕ → CellLabel
 cellAnswer number listed =
@@ -70,7 +79,7 @@ cellAnswer number listed =
 
 unfoldable pub cellLabel : List ℕ → Settings → ℕ → CellLabel
 cellLabel ram s cell =
-    cellAnswer (cellRefusal ram s cell) (unlessRefused (cellRefusal ram s cell) (meetingCells ram s cell))
+    cellAnswer (cellRefusal ram s cell) (sharersOf ram s cell)
 
 -- the answer that names these unsound cells beside so many pairs
 unfoldable pub areaAnswer : ℕ → List ℕ → ℕ → AreaLabel

@@ -2,12 +2,18 @@
 use Prim.Native.Nat.{ℕ, zero, suc, _+_, _*_}
 use mathlib.Core.Bool.{Bool, cond, _&&_}
 use mathlib.Core.List.{List, [], _∷_, _++_, map}
+use lib.ListN.{getD}
 use lib.Dec.{ltb}
 
 -- the numbers below n that pass, "in rising number"
 unfoldable pub passing : (ℕ → Bool) → ℕ → List ℕ
 passing test zero = []
 passing test (suc n) = passing test n ++ cond (test n) (n ∷ []) []
+
+-- the first n numbers of a list, 0 for each that it has not
+unfoldable pub front : List ℕ → ℕ → List ℕ
+front numbers zero = []
+front numbers (suc n) = front numbers n ++ (getD numbers n 0 ∷ [])
 
 -- "lower number first"
 pub record Pair : Type 0 where

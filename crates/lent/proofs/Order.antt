@@ -13,7 +13,7 @@ abbrev back : List ℕ → ℕ → List ℕ → List ℕ
 back xs i [] = xs
 back xs i (y ∷ ys) = set (back xs (suc i) ys) i y
 
-set-later : (xs ys : List ℕ) (i j a : ℕ) → i < j → sets (set xs i a) j ys ≡ set (sets xs j ys) i a
+pub set-later : (xs ys : List ℕ) (i j a : ℕ) → i < j → sets (set xs i a) j ys ≡ set (sets xs j ys) i a
 set-later xs [] i j a h = refl
 set-later xs (y ∷ ys) i j a h =
     let p : (i ≡ j → ⊥) = λ e. omega arith in

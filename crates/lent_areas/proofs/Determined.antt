@@ -10,14 +10,11 @@ use Rattle.lent_areas.proofs.labels
 pub check-word-settled : Settled 0 checks.check_word.Kinds.ps checks.check_word.Kinds.r checks.check_word.Reads.Post
 check-word-settled κs a x y v w p q = (determined p q, refl)
 
-pub put-listing-settled : Settled 1 labels.put_listing.Kinds.ps labels.put_listing.Kinds.r labels.put_listing.Reads.Post
-put-listing-settled κs a x y v w p q = (refl, λ i. (determined p q i, v .1))
+pub put-found-settled : Settled 2 labels.put_found.Kinds.ps labels.put_found.Kinds.r labels.put_found.Reads.Post
+put-found-settled κs a x y v w p q = (refl, λ i. (determined p q i, v .1))
 
 pub put-cells-settled : Settled 1 labels.put_cells.Kinds.ps labels.put_cells.Kinds.r labels.put_cells.Reads.Post
 put-cells-settled κs a x y v w p q = (refl, λ i. (determined p q i, v .1))
-
-pub put-no-listing-settled : Settled 1 labels.put_no_listing.Kinds.ps labels.put_no_listing.Kinds.r labels.put_no_listing.Reads.Post
-put-no-listing-settled κs a x y v w p q = (refl, λ i. (determined p q i, v .1))
 
 pub put-counts-settled : Settled 1 labels.put_counts.Kinds.ps labels.put_counts.Kinds.r labels.put_counts.Reads.Post
 put-counts-settled κs a x y v w p q = (refl, λ i. (determined p q i, v .1))

@@ -1,64 +1,50 @@
 // The labels on shared pages as plain words.
 ghost use mathlib.Core.Path.{_≡_};
-ghost use Prim.Native.Nat.{_≤_};
-ghost use lib.ListN.{length, replicate};
+ghost use mathlib.Core.List.{[], _∷_, map};
+ghost use Prim.Native.Nat.{_≤_, min};
+ghost use lib.ListN.{replicate};
 ghost use lib.Seq.{sets};
+ghost use Rattle.label.specs.Listing.{front};
+ghost use Rattle.label.specs.Label.{sharerNumbered, cellAnswer};
 ghost use Rattle.lent.specs.Over.{over};
 ghost use Rattle.lent_areas.specs.Labels.{sharerWords, listingWords, countWords};
-use label::one::CellLabel;
-use label::one::Sharer;
+use label::one::Numbers;
+use label::one::sharer_numbered;
 use label::whole::AreaLabel;
 use memory::ram::put;
 use words::bits::bit_of;
 use words::choose::smaller;
 
-// Each cell's two words in turn, each only where there is room for it.
-fn put_each_sharer(xs: &mut [u16], cells: [Sharer; 89])
-    ensures { λ r. ⌜ now (xs .exit) ≡ sets (now (xs .entry)) 1 (sharerWords cells) ⌝ }
+// The two words of a cell, each only where there is room for it. Where there is room for the second there is room for
+// the first, so one test is left.
+fn put_sharer(xs: &mut [u16], at: usize, number: u16)
+    requires { ⌜ at ≤ 177 ⌝ }
+    ensures { λ r. ⌜ now (xs .exit) ≡ sets (now (xs .entry)) at (sharerWords (sharerNumbered number ∷ [])) ⌝ }
 {
-    let mut k: usize = 0;
-    while k < 89 {
-        let other = cells[k];
-        put(xs, 1 + 2 * k, other.cell);
-        put(xs, 2 + 2 * k, bit_of(other.writes));
-        k += 1;
-    }
-}
-
-fn put_all_sharers(xs: &mut [u16], cells: [Sharer; 89])
-    requires { ⌜ 179 ≤ length (now xs) ⌝ }
-    ensures { λ r. ⌜ now (xs .exit) ≡ sets (now (xs .entry)) 1 (sharerWords cells) ⌝ }
-{
-    let mut k: usize = 0;
-    while k < 89 {
-        let other = cells[k];
-        xs[1 + 2 * k] = other.cell;
-        xs[2 + 2 * k] = bit_of(other.writes);
-        k += 1;
-    }
-}
-
-// Two words for each cell, from place 1 on. Where there is room for all, the compiler sees plain stores.
-fn put_sharers(xs: &mut [u16], cells: [Sharer; 89])
-    ensures { λ r. ⌜ now (xs .exit) ≡ sets (now (xs .entry)) 1 (sharerWords cells) ⌝ }
-{
-    if 179 <= xs.len() {
-        put_all_sharers(xs, cells);
+    let other = sharer_numbered(number);
+    let mark = bit_of(other.writes);
+    if at + 1 < xs.len() {
+        xs[at] = other.cell;
+        xs[at + 1] = mark;
     } else {
-        put_each_sharer(xs, cells);
+        put(xs, at, other.cell);
     }
 }
 
-pub fn put_listing(xs: &mut [u16], label: CellLabel)
-    ensures { λ r. ⌜ now (xs .exit) ≡ over (now (xs .entry)) (listingWords label) ⌝ }
+// The words of the first `count` cells, from place 1 on.
+fn put_sharers(xs: &mut [u16], numbers: &Numbers, count: usize)
+    requires { ⌜ count ≤ 89 ⌝ }
+    ensures { λ r. ⌜ now (xs .exit) ≡ sets (now (xs .entry)) 1 (sharerWords (map sharerNumbered (front (now (numbers .entry)) count))) ⌝ }
 {
-    let cells = label.cells;
-    put(xs, 0, label.count);
-    put_sharers(xs, cells);
+    let mut k: usize = 0;
+    while k < count {
+        put_sharer(xs, 1 + 2 * k, numbers[k]);
+        k += 1;
+    }
 }
 
-// The listing of a refusal: "the number, the rest zero", so 179 zeros as far as there is room.
-pub fn put_no_listing(xs: &mut [u16])
+// A listing without a cell: 179 zeros, as far as there is room.
+fn put_no_listing(xs: &mut [u16])
     ensures { λ r. ⌜ now (xs .exit) ≡ over (now (xs .entry)) (replicate 179 0) ⌝ }
 {
     let room = smaller(xs.len(), 179);
@@ -67,6 +53,16 @@ pub fn put_no_listing(xs: &mut [u16])
         xs[k] = 0;
         k += 1;
     }
+}
+
+// The listing of the cells with these numbers: of the first `count`, and no more than there can be.
+pub fn put_found(xs: &mut [u16], numbers: &Numbers, count: u16)
+    ensures { λ r. ⌜ now (xs .exit) ≡ over (now (xs .entry)) (listingWords (cellAnswer 0 (front (now (numbers .entry)) (min count 89)))) ⌝ }
+{
+    put_no_listing(xs);
+    let listed = smaller(count as usize, 89);
+    put(xs, 0, listed as u16);
+    put_sharers(xs, numbers, listed);
 }
 
 // The most cells that can be unsound, as a label has them.

@@ -1,6 +1,6 @@
 -- A cell's window as two addresses, read once for each cell, so that two cells are compared without asking RAM again.
 use Prim.Native.Nat.{ℕ, _+_}
-use mathlib.Core.Bool.{Bool, not, cond, _&&_}
+use mathlib.Core.Bool.{Bool, cond, _&&_}
 use mathlib.Core.List.{List}
 use lib.ListN.{length, getD}
 use lib.Dec.{ltb, eqb}
@@ -50,10 +50,6 @@ spanAt starts ends number = record { start = getD starts number 0; end = getD en
 
 unfoldable pub placesMeet : List ℕ → List ℕ → ℕ → ℕ → Bool
 placesMeet starts ends cell other = spansMeet (spanAt starts ends cell) (spanAt starts ends other)
-
--- another place, whose span meets that of this one
-unfoldable pub otherMeets : List ℕ → List ℕ → ℕ → ℕ → Bool
-otherMeets starts ends cell other = not (eqb other cell) && placesMeet starts ends cell other
 
 -- no cell from this number on is read
 abbrev pub readEnd : Settings → ℕ

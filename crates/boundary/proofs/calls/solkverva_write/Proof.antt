@@ -1,5 +1,8 @@
--- `solkverva_write` meets its contract.
+-- `solkverva_write` meets its contract: refused, or the bytes.
 use borrow.Author.Needs.{needs}
+use mathlib.Core.Path.{sym, ap, _∙_}
+use Rattle.layout.specs.declared.writer.Written.{Written}
+use Rattle.boundary.proofs.Refused.{write-refused}
 use Rattle.boundary.proofs.calls.solkverva_write.Statement.{statement}
 use Rattle.boundary.proofs.calls.solkverva_write.Tie as tie
 
@@ -17,10 +20,36 @@ same-length c = search needs
 
 returns : tie.Need-returns
 returns c =
-    let v = c .before .before .before .before .before .before .value-from .ensures in
-    let w = c .before .before .before .before .before .write .ensures in
-    (rw (w, v), rw (c .before .before .put-bytes .ensures, w, v))
+    let put = c .before .before in
+    let chosen = put .before .before in
+    let wrote = chosen .before .before in
+    let w = rw (wrote .before .value-from .ensures) at (wrote .write .ensures) in
+    let n = ap (λ (r : Written). r .number) w in
+    (n, put .put-bytes .ensures ∙ sym (write-refused _ _ (λ z. chosen .if1 .taken (n ∙ z))))
+
+put-bytes-requires-2 : tie.Need-put-bytes-requires-2
+put-bytes-requires-2 c κs = search needs
+
+same-length-2 : tie.Need-same-length-2
+same-length-2 c = search needs
+
+returns-2 : tie.Need-returns-2
+returns-2 c =
+    let put = c .before .before in
+    let chosen = put .before .before .before in
+    let wrote = chosen .before .before in
+    let w = rw (wrote .before .value-from .ensures) at (wrote .write .ensures) in
+    (sym (chosen .if1 .left) ∙ ap (λ (r : Written). r .number) w, rw (put .put-bytes2 .ensures, w))
 
 pub solkverva-write-spec : {M : Type 1} → statement M
 solkverva-write-spec =
-    tie.close (tie.spec value-from-requires write-requires put-bytes-requires same-length returns)
+    tie.close
+    (tie.spec
+    value-from-requires
+    write-requires
+    put-bytes-requires
+    same-length
+    returns
+    put-bytes-requires-2
+    same-length-2
+    returns-2)
