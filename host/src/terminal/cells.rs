@@ -212,6 +212,20 @@ fn first_unsound_cell(ram: &[u16], settings: &Settings, stack: &Stack) -> Option
     cells_read(ram, settings).find(|cell| !cell.is_sound(ram.len(), stack))
 }
 
+/// The cell with this number, if the whole-area check reads it.
+pub fn cell_read(ram: &[u16], settings: &Settings, number: u16) -> Option<Cell> {
+    let kind = match number / 32 {
+        0 => Kind::Receive,
+        1 => Kind::Transmit,
+        2 if settings.has_broadcast_cells() => Kind::Broadcast,
+        _ => return None,
+    };
+    let subaddress = number % 32;
+    (1..31)
+        .contains(&subaddress)
+        .then(|| Cell::read(ram, settings, kind, subaddress))
+}
+
 /// The cells that the whole-area check reads, in rising number.
 pub fn cells_read<'a>(ram: &'a [u16], settings: &'a Settings) -> impl Iterator<Item = Cell> + 'a {
     let kinds: &[Kind] = if settings.has_broadcast_cells() {

@@ -1,7 +1,7 @@
 //! A label on shared pages: which cells share words of RAM, and which of them
 //! can write there.
 
-use super::cells::{cells_read, check_ram, meet, Cell, Kind, Stack, CELLS};
+use super::cells::{cell_read, cells_read, check_ram, meet, Cell, Kind, Stack, CELLS};
 use super::refusal;
 use super::settings::Settings;
 
@@ -27,11 +27,12 @@ pub struct AreaLabel {
 pub fn label_cell(ram: &[u16], settings: &Settings, cell: u16) -> Result<Vec<Sharer>, u16> {
     let stack = sound_stack(ram, settings)?;
     let is_sound = |it: &Cell| it.is_sound(ram.len(), &stack);
-    let asked = cells_read(ram, settings).find(|it| it.number() == cell);
+    let asked = cell_read(ram, settings, cell);
     let window = asked.filter(is_sound).ok_or(refusal::CELL)?.window();
     let mut sharers = Vec::with_capacity(CELLS);
     cells_read(ram, settings).for_each(|other| {
-        if other.number() != cell && is_sound(&other) && meet(&window, &other.window()) {
+        // Most windows lie apart: of those, nothing else is asked.
+        if meet(&window, &other.window()) && other.number() != cell && is_sound(&other) {
             sharers.push(sharer(&other));
         }
     });
