@@ -25,12 +25,15 @@ fn store_each(ram: &mut [u16], w: Window, words: &[u16], n: u16)
     }
 }
 
-// The stored words in two runs, where all of them lie in RAM. They come by value, so that the compiler puts them in order
-// for a copy only here, where a copy is made.
-fn store_runs(ram: &mut [u16], w: Window, words: Words, n: u16)
+// The stored words, from the pointer on, wrapping inside the window: a single word by itself, since a run is copied by a
+// call, and else in two runs, where all of them lie in RAM. They come by value, so that the compiler puts them in order
+// for a copy only here, where they are stored.
+fn store_some(ram: &mut [u16], w: Window, words: Words, n: u16)
     ensures { λ r. ⌜ now (ram .exit) ≡ applyWrites (dataWrites w words n) (now (ram .entry)) ⌝ }
 {
-    if both(goes_once(w, ram.len(), n), n <= 32) {
+    if n == 1 {
+        put(ram, place(w, 0), words[0]);
+    } else if both(goes_once(w, ram.len(), n), n <= 32) {
         let r = runs_of(w, n);
         copy_run(ram, r.pointer, &words, 0, r.first);
         copy_run(ram, r.start, &words, r.first, r.rest);
@@ -39,14 +42,11 @@ fn store_runs(ram: &mut [u16], w: Window, words: Words, n: u16)
     }
 }
 
-// The stored words, from the pointer on, wrapping inside the window: a single word by itself, since a run is copied by a
-// call, and for none nothing is worked out.
+// For no word nothing is worked out.
 pub fn store_words(ram: &mut [u16], w: Window, words: Words, n: u16)
     ensures { λ r. ⌜ now (ram .exit) ≡ applyWrites (dataWrites w words n) (now (ram .entry)) ⌝ }
 {
-    if n == 1 {
-        put(ram, place(w, 0), words[0]);
-    } else if n != 0 {
-        store_runs(ram, w, words, n);
+    if n != 0 {
+        store_some(ram, w, words, n);
     }
 }
