@@ -1,24 +1,18 @@
 -- What RAM says of a cell: its lookup word and its control word, and no other, describe it.
 use Prim.Native.Nat.{ℕ}
-use mathlib.Core.Path.{_≡_, refl}
+use mathlib.Core.Path.{_≡_}
 use mathlib.Core.List.{List}
 use lib.ListN.{getD}
 use Rattle.words.specs.declared.settings.Area.{Area}
 use Rattle.memory.specs.declared.kind.Kind.{Kind}
 use Rattle.memory.specs.Map.{lookupPlace, controlPlace}
 use Rattle.memory.specs.Kind.{cellNumber}
-use Rattle.cells.specs.Cell.{schemeOf, lookupAt, cellFrom, cellAt}
+use Rattle.cells.specs.Cell.{lookupAt, cellFrom, cellAt}
 
 pub cell-words :
     (m n : List ℕ) (area : Area) (kind : Kind) (sub : ℕ) →
     getD m (lookupPlace area (cellNumber kind sub)) 0 ≡ getD n (lookupPlace area (cellNumber kind sub)) 0 →
     getD m (controlPlace area sub) 0 ≡ getD n (controlPlace area sub) 0 →
     cellAt m area kind sub ≡ cellAt n area kind sub
-unfolding cellAt
+unfolding lookupAt cellFrom cellAt
 cell-words m n area kind sub e g = rw (e, g)
-
--- a cell is what its lookup describes
-pub looked-up :
-    (m : List ℕ) (area : Area) (kind : Kind) (sub : ℕ) → cellFrom kind sub (lookupAt m area kind sub) ≡ cellAt m area kind sub
-unfolding schemeOf lookupAt cellFrom cellAt
-looked-up m area kind sub = refl

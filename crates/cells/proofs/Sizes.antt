@@ -14,7 +14,7 @@ use Rattle.memory.specs.declared.kind.Kind.{Kind}
 use Rattle.cells.specs.declared.cell.Scheme.{Scheme}
 use Rattle.cells.specs.declared.cell.Scheme.the-variants.{Single, Double, Circular}
 use Rattle.windows.specs.Window.{runFrom, aligned}
-use Rattle.cells.specs.Cell.{controlPart, sizeOf, doublesKind, pickScheme, schemeOf, cellAt, windowOf}
+use Rattle.cells.specs.Cell.{sizeOf, pickScheme, lookupAt, cellFrom, cellAt, windowOf}
 use Rattle.windows.proofs.Wrap.{aligned-pointer, aligned-offset, aligned-size, aligned-same, SameRun}
 
 -- the schemes that a control word can give: a circular size is 64·2^m with m from 1 to 7
@@ -35,14 +35,9 @@ picked-sized m d h =
     plain true = double
     plain false = single
 
-pub scheme-sized : (control : ℕ) (kind : Kind) → Sized (schemeOf control kind)
-unfolding schemeOf
-scheme-sized control kind =
-    picked-sized (controlPart control kind % 8) (eqb (control / 32768) 1 && doublesKind kind) (omega arith)
-
 pub cell-sized : (ram : List ℕ) (area : Area) (kind : Kind) (sub : ℕ) → Sized (cellAt ram area kind sub .scheme)
-unfolding cellAt
-cell-sized ram area kind sub = scheme-sized _ kind
+unfolding lookupAt cellFrom cellAt
+cell-sized ram area kind sub = picked-sized _ _ (omega arith)
 
 -- so every window has room for the 32 words of a message
 pub window-room : (s : Scheme) (p : ℕ) → Sized s → 32 ≤ windowOf s p .size

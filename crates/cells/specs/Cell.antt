@@ -44,23 +44,8 @@ doublesKind Broadcast = true
 unfoldable pub pickScheme : ℕ → Bool → Scheme
 pickScheme m double = cond (eqb m 0) (cond double Double Single) (Circular (sizeOf m))
 
--- the scheme that a control word gives a cell of this kind; bit 15 doubles, "not transmit"
-unfoldable pub schemeOf : ℕ → Kind → Scheme
-schemeOf control kind = pickScheme (controlPart control kind % 8) (eqb (control / 32768) 1 && doublesKind kind)
-
--- the cell of a kind and a subaddress, as RAM describes it
-unfoldable pub cellAt : List ℕ → Area → Kind → ℕ → Cell
-cellAt ram area kind sub =
-    record {
-      kind = kind;
-      subaddress = sub;
-      pointer = getD ram (lookupPlace area (cellNumber kind sub)) 0;
-      scheme = schemeOf (getD ram (controlPlace area sub) 0) kind;
-      «circular_interrupt» = eqb (controlPart (getD ram (controlPlace area sub) 0) kind / 8 % 2) 1;
-      «end_interrupt» = eqb (controlPart (getD ram (controlPlace area sub) 0) kind / 16 % 2) 1;
-    }
-
--- what RAM says of that cell: its lookup word, the five bits of its kind, and whether bit 15 doubles it
+-- what RAM says of the cell of a kind and a subaddress: its lookup word, the five bits of its kind, and whether bit 15
+-- doubles it, "not transmit"
 unfoldable pub lookupAt : List ℕ → Area → Kind → ℕ → Lookup
 lookupAt ram area kind sub =
     record {
@@ -80,6 +65,10 @@ cellFrom kind sub l =
       «circular_interrupt» = eqb (l .part / 8 % 2) 1;
       «end_interrupt» = eqb (l .part / 16 % 2) 1;
     }
+
+-- the cell of a kind and a subaddress, as RAM describes it
+unfoldable pub cellAt : List ℕ → Area → Kind → ℕ → Cell
+cellAt ram area kind sub = cellFrom kind sub (lookupAt ram area kind sub)
 
 -- single: "the 32 words from the pointer"; double: "the 64 words aligned to 64 around it"; circular: "aligned to that
 -- size, around the pointer"

@@ -16,7 +16,7 @@ use Rattle.memory.specs.Map.{ramRefused, stackPointerPlace, lookupTable, busyPl
 use Rattle.memory.specs.Kind.{cellNumber, kindNumbered, kindOf}
 use Rattle.memory.specs.Writes.{applyWrites, writesTo}
 use Rattle.windows.specs.Window.{runFrom, aligned, placeOf, rollsOver, meets, meetsFixed}
-use Rattle.cells.specs.Cell.{controlPart, pickScheme, schemeOf, cellAt, windowOf, doubleFits, soundCell}
+use Rattle.cells.specs.Cell.{controlPart, pickScheme, lookupAt, cellFrom, cellAt, windowOf, doubleFits, soundCell}
 use Rattle.cells.specs.Stack.{stackPointer, stackWindow, stackSound}
 use Rattle.arrival.specs.Target.{cellFor, isIllegal, isBusy, targetOf}
 use Rattle.acts.specs.Act.{withheld, wordsStored, wordsSent, actWith, actOf}
@@ -175,5 +175,5 @@ expected =
     ∷ []
 
 pub computed : map seen cases ≡ expected
-unfolding bitsOf wordCount isModeSubaddress stackSizeListed settingsRefused isOwn isBroadcast isNotOurs hasBroadcastCells firstOf transferFails breaksTransfer lastsZero keepsLayout expectedWords faultsOf faultsFor anyFault ramRefused stackPointerPlace lookupTable busyPlace isBusyAt illegalPlace isIllegalAt cellNumber kindOf applyWrites writesTo runFrom aligned placeOf rollsOver meets meetsFixed controlPart pickScheme schemeOf cellAt windowOf doubleFits soundCell stackPointer stackWindow stackSound cellFor isIllegal isBusy targetOf withheld wordsStored wordsSent actWith actOf mayMove stride moves motionWith motionOf blockStatus statusBits statusWord signalsOf deedWith deedOf entryOf interruptWord planWith planOf pointerWrites descriptorOf entryWrites deedWrites stackWrites writesOf replyWrites replyWords cellUnsound refusalFor refusedWith acceptedWith answerFor rememberedWith carriedOut stateFor answerOf step kindNumbered programSettings isRead cellNumbered isUnsound orElse lowest lowestUnsound areaRefusal checkArea run effectOf effects swapAt exchangeAll wellFormed allWellFormed mayExchange allowedAt allowedAll withoutWrap withoutStackRollover rememberedLast entriesOn lastOf stackWord keptAfter stackAfter rememberedAfter startsWell takesWell asked plainRam startOf orderOf saidOf seen
+unfolding bitsOf wordCount isModeSubaddress stackSizeListed settingsRefused isOwn isBroadcast isNotOurs hasBroadcastCells firstOf transferFails breaksTransfer lastsZero keepsLayout expectedWords faultsOf faultsFor anyFault ramRefused stackPointerPlace lookupTable busyPlace isBusyAt illegalPlace isIllegalAt cellNumber kindOf applyWrites writesTo runFrom aligned placeOf rollsOver meets meetsFixed controlPart pickScheme lookupAt cellFrom cellAt windowOf doubleFits soundCell stackPointer stackWindow stackSound cellFor isIllegal isBusy targetOf withheld wordsStored wordsSent actWith actOf mayMove stride moves motionWith motionOf blockStatus statusBits statusWord signalsOf deedWith deedOf entryOf interruptWord planWith planOf pointerWrites descriptorOf entryWrites deedWrites stackWrites writesOf replyWrites replyWords cellUnsound refusalFor refusedWith acceptedWith answerFor rememberedWith carriedOut stateFor answerOf step kindNumbered programSettings isRead cellNumbered isUnsound orElse lowest lowestUnsound areaRefusal checkArea run effectOf effects swapAt exchangeAll wellFormed allWellFormed mayExchange allowedAt allowedAll withoutWrap withoutStackRollover rememberedLast entriesOn lastOf stackWord keptAfter stackAfter rememberedAfter startsWell takesWell asked plainRam startOf orderOf saidOf seen
 computed = refl

@@ -14,7 +14,7 @@ use Rattle.words.proofs.Basics.{eq-or-ne}
 use Rattle.memory.specs.declared.kind.Kind.{Kind}
 use Rattle.memory.specs.Map.{lookupPlace, controlPlace, busyPlace, illegalPlace}
 use Rattle.memory.specs.Kind.{kindNumbered, cellNumber, kindOf}
-use Rattle.cells.specs.Cell.{cellAt, cellWindow}
+use Rattle.cells.specs.Cell.{lookupAt, cellFrom, cellAt, cellWindow}
 use Rattle.cells.specs.Stack.{stackWindow}
 use Rattle.area.specs.Area.{cellNumbered}
 use Rattle.windows.proofs.Wrap.{SameRun}
@@ -106,11 +106,11 @@ module _ (ram : List ℕ) (s : Settings) (v : Record) (f : Sure ram s (v .comman
 
   -- its own cell has the pointer where rule 5 leaves it, and is otherwise as it was
   pub own-pointer : cellFor after s (v .command) .pointer ≡ deedFor ram s v .after
-  unfolding cellFor cellAt targetOf
+  unfolding cellFor lookupAt cellFrom cellAt targetOf
   own-pointer = lookup-after ram s v f
 
   pub own-scheme : cellFor after s (v .command) .scheme ≡ cellFor ram s (v .command) .scheme
-  unfolding cellFor cellAt
+  unfolding cellFor lookupAt cellFrom cellAt
   own-scheme = rw (control-stays (subaddressOf (v .command)) (omega arith))
 
   pub own-window : SameRun (cellWindow (cellFor after s (v .command))) (cellWindow (cellFor ram s (v .command)))

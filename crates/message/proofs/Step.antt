@@ -14,7 +14,7 @@ use Rattle.words.proofs.Basics.{yes-or-no}
 use Rattle.memory.specs.Map.{lookupPlace, stackPointerPlace}
 use Rattle.windows.specs.Window.{placeOf}
 use Rattle.memory.specs.Kind.{kindOf}
-use Rattle.cells.specs.Cell.{cellAt, cellWindow}
+use Rattle.cells.specs.Cell.{lookupAt, cellFrom, cellAt, cellWindow}
 use Rattle.cells.specs.Stack.{stackPointer, stackWindow}
 use Rattle.windows.proofs.Wrap.{place-from, place-below, places-differ}
 use Rattle.windows.proofs.Meets.{Outside}
@@ -98,7 +98,7 @@ module _ (ram : List ℕ) (s : Settings) (v : Record) where
   pub pointer-read :
       targetOf ram s (v .command) .cell .pointer
       ≡ getD ram (lookupPlace (s .area) (targetOf ram s (v .command) .number)) 0
-  unfolding targetOf cellFor cellAt
+  unfolding targetOf cellFor lookupAt cellFrom cellAt
   pointer-read = refl
 
   stays : deedFor ram s v .moves ≡ false → deedFor ram s v .after ≡ targetOf ram s (v .command) .cell .pointer

@@ -1,6 +1,6 @@
 -- `cell_for` meets its contract: the cell of the command's kind and subaddress.
 use borrow.Author.Needs.{needs}
-use Rattle.cells.proofs.Described.{looked-up}
+use Rattle.cells.specs.Cell.{cellAt}
 use Rattle.arrival.specs.Target.{cellFor}
 use Rattle.arrival.proofs.target.cell_for.Statement.{statement}
 use Rattle.arrival.proofs.target.cell_for.Tie as tie
@@ -18,7 +18,7 @@ cell-from-requires : tie.Need-cell-from-requires
 cell-from-requires c κs = search needs
 
 returns : tie.Need-returns
-unfolding cellFor
+unfolding cellFor cellAt
 returns c =
     let kind = c .before .before in
     rw (
@@ -27,7 +27,6 @@ returns c =
       kind .kind-of .ensures,
       kind .before .subaddress .ensures,
     )
-    (looked-up _ _ _ _)
 
 pub cell-for-spec : {M : Type 1} → statement M
 cell-for-spec =

@@ -1,6 +1,6 @@
 -- `cell_at` meets its contract: the cell that is looked up.
 use borrow.Author.Needs.{needs}
-use Rattle.cells.proofs.Described.{looked-up}
+use Rattle.cells.specs.Cell.{cellAt}
 use Rattle.cells.proofs.cell.cell_at.Statement.{statement}
 use Rattle.cells.proofs.cell.cell_at.Tie as tie
 
@@ -11,7 +11,8 @@ cell-from-requires : tie.Need-cell-from-requires
 cell-from-requires c κs = search needs
 
 returns : tie.Need-returns
-returns c = rw (c .cell-from .ensures, c .before .lookup-at .ensures) (looked-up _ _ _ _)
+unfolding cellAt
+returns c = rw (c .cell-from .ensures, c .before .lookup-at .ensures)
 
 pub cell-at-spec : {M : Type 1} → statement M
 cell-at-spec = tie.close (tie.spec lookup-at-requires cell-from-requires returns)
