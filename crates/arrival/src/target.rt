@@ -1,13 +1,9 @@
 // What a command is aimed at: the cell, its window, and whether the command is broadcast, illegal or busy.
 ghost use mathlib.Core.Path.{_≡_};
-ghost use Rattle.cells.specs.Cell.{lookupAt};
 ghost use Rattle.arrival.specs.Target.{cellFor, isIllegal, isBusy, targetWith, targetOf};
 use cells::cell::Cell;
-use cells::cell::Lookup;
-use cells::cell::cell_from;
-use cells::cell::lookup_at;
+use cells::cell::cell_by_kind;
 use cells::cell::window_of;
-use memory::kind::Kind;
 use memory::kind::cell_number;
 use memory::kind::kind_of;
 use memory::map::is_busy_at;
@@ -15,7 +11,6 @@ use memory::map::is_illegal_at;
 use windows::window::Window;
 use words::choose::either;
 use words::command;
-use words::settings::Area;
 use words::settings::Settings;
 use words::settings::is_broadcast;
 use words::settings::is_own;
@@ -29,26 +24,13 @@ pub struct Target {
     pub number: u16,
 }
 
-// What RAM says of the cell that a command uses. A way for each kind: its places and its bits are then fixed.
-fn lookup_for(ram: &[u16], area: Area, kind: Kind, subaddress: u16) -> Lookup
-    ensures { λ r. ⌜ r ≡ lookupAt (now (ram .entry)) area kind subaddress ⌝ }
-{
-    match kind {
-        Kind::Receive => lookup_at(ram, area, Kind::Receive, subaddress),
-        Kind::Transmit => lookup_at(ram, area, Kind::Transmit, subaddress),
-        Kind::Broadcast => lookup_at(ram, area, Kind::Broadcast, subaddress),
-    }
-}
-
 // The cell that a command uses.
 pub fn cell_for(ram: &[u16], s: Settings, command: u16) -> Cell
     ensures { λ r. ⌜ r ≡ cellFor (now (ram .entry)) s command ⌝ }
 {
     let area = s.area;
-    let subaddress = command::subaddress(command);
     let kind = kind_of(s, command);
-    let l = lookup_for(ram, area, kind, subaddress);
-    cell_from(kind, subaddress, l)
+    cell_by_kind(ram, area, kind, command::subaddress(command))
 }
 
 fn is_illegal(ram: &[u16], s: Settings, command: u16) -> bool

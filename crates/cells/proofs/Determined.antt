@@ -6,11 +6,8 @@ use Rattle.words.proofs.Settled.{determined, Settled}
 use Rattle.cells.proofs.cell
 use Rattle.cells.proofs.stack
 
-pub lookup-at-settled : Settled 1 cell.lookup_at.Kinds.ps cell.lookup_at.Kinds.r cell.lookup_at.Reads.Post
-lookup-at-settled κs a x y v w p q = (determined p q, refl)
-
-pub cell-from-settled : Settled 0 cell.cell_from.Kinds.ps cell.cell_from.Kinds.r cell.cell_from.Reads.Post
-cell-from-settled κs a x y v w p q = (determined p q, refl)
+pub cell-by-kind-settled : Settled 1 cell.cell_by_kind.Kinds.ps cell.cell_by_kind.Kinds.r cell.cell_by_kind.Reads.Post
+cell-by-kind-settled κs a x y v w p q = (determined p q, refl)
 
 pub cell-at-settled : Settled 1 cell.cell_at.Kinds.ps cell.cell_at.Kinds.r cell.cell_at.Reads.Post
 cell-at-settled κs a x y v w p q = (determined p q, refl)

@@ -44,8 +44,8 @@ doublesKind Broadcast = true
 unfoldable pub pickScheme : ℕ → Bool → Scheme
 pickScheme m double = cond (eqb m 0) (cond double Double Single) (Circular (sizeOf m))
 
--- what RAM says of the cell of a kind and a subaddress: its lookup word, the five bits of its kind, and whether bit 15
--- doubles it, "not transmit"
+-- what RAM says of the cell of a kind and a subaddress: its lookup word, the five bits of its kind, and whether bit 15 is
+-- set and the kind heeds it, "not transmit"
 unfoldable pub lookupAt : List ℕ → Area → Kind → ℕ → Lookup
 lookupAt ram area kind sub =
     record {

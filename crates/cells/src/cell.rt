@@ -1,7 +1,6 @@
 // A cell's description, read from its lookup word and its control word; its window; whether it is sound.
 ghost use mathlib.Core.Path.{_≡_};
 ghost use Prim.Native.Nat.{_<_};
-ghost use lib.ListN.{length};
 ghost use Rattle.cells.specs.Cell.{controlShift, controlPart, sizeOf, doublesKind, pickScheme, lookupAt, cellFrom, cellAt, windowOf, doubleFits, soundWithin, soundCell};
 use memory::kind::Kind;
 use memory::kind::cell_number;
@@ -41,7 +40,7 @@ pub struct Lookup {
     pub pointer: u16,
     // the five bits of its kind in the control word
     pub part: u16,
-    // whether bit 15 doubles it
+    // whether bit 15 is set and the kind heeds it; it counts with size field 0 alone
     pub double: bool,
 }
 
@@ -93,8 +92,8 @@ fn pick_scheme(m: u16, double: bool) -> Scheme
     Scheme::Circular(size_of(m))
 }
 
-// The words of the cell of this kind and subaddress, as they stand in RAM.
-pub fn lookup_at(ram: &[u16], area: Area, kind: Kind, subaddress: u16) -> Lookup
+// What RAM says of the cell of this kind and subaddress.
+fn lookup_at(ram: &[u16], area: Area, kind: Kind, subaddress: u16) -> Lookup
     ensures { λ r. ⌜ r ≡ lookupAt (now (ram .entry)) area kind subaddress ⌝ }
 {
     let control = word_at(ram, control_place(area, subaddress));
@@ -106,8 +105,8 @@ pub fn lookup_at(ram: &[u16], area: Area, kind: Kind, subaddress: u16) -> Lookup
     }
 }
 
-// The cell that these words describe.
-pub fn cell_from(kind: Kind, subaddress: u16, l: Lookup) -> Cell
+// The cell that this describes.
+fn cell_from(kind: Kind, subaddress: u16, l: Lookup) -> Cell
     ensures { λ r. ⌜ r ≡ cellFrom kind subaddress l ⌝ }
 {
     let scheme = pick_scheme(l.part % 8, l.double);
@@ -126,6 +125,25 @@ pub fn cell_at(ram: &[u16], area: Area, kind: Kind, subaddress: u16) -> Cell
     ensures { λ r. ⌜ r ≡ cellAt (now (ram .entry)) area kind subaddress ⌝ }
 {
     let l = lookup_at(ram, area, kind, subaddress);
+    cell_from(kind, subaddress, l)
+}
+
+// A way for each kind: its places and its bits are then fixed.
+fn lookup_for(ram: &[u16], area: Area, kind: Kind, subaddress: u16) -> Lookup
+    ensures { λ r. ⌜ r ≡ lookupAt (now (ram .entry)) area kind subaddress ⌝ }
+{
+    match kind {
+        Kind::Receive => lookup_at(ram, area, Kind::Receive, subaddress),
+        Kind::Transmit => lookup_at(ram, area, Kind::Transmit, subaddress),
+        Kind::Broadcast => lookup_at(ram, area, Kind::Broadcast, subaddress),
+    }
+}
+
+// The same cell, for whoever asks often for cells of one kind, or for one cell.
+pub fn cell_by_kind(ram: &[u16], area: Area, kind: Kind, subaddress: u16) -> Cell
+    ensures { λ r. ⌜ r ≡ cellAt (now (ram .entry)) area kind subaddress ⌝ }
+{
+    let l = lookup_for(ram, area, kind, subaddress);
     cell_from(kind, subaddress, l)
 }
 

@@ -179,10 +179,10 @@ module _ {A : Type 0} (f : ℕ → A) (t : ℕ → Bool) (n used : ℕ) (room no
 
 -- ---- the answers that hold what is listed
 
-pub length-first : (numbers : List ℕ) (n : ℕ) → length (front numbers n) ≡ n
+pub length-front : (numbers : List ℕ) (n : ℕ) → length (front numbers n) ≡ n
 unfolding front
-length-first numbers zero = refl
-length-first numbers (suc n) = rw length-append (omega (arith, length-first numbers n))
+length-front numbers zero = refl
+length-front numbers (suc n) = rw length-append (omega (arith, length-front numbers n))
 
 -- one number more of those that are listed
 pub front-more :
@@ -192,7 +192,7 @@ unfolding front
 front-more f room numbers k =
     let before = front numbers k in
     let m = run-more room (map f before) (f (getD numbers k 0)) 0 in
-    let long : 0 + length (map f before) ≡ k = zero-add _ ∙ length-map before f ∙ length-first numbers k in
+    let long : 0 + length (map f before) ≡ k = zero-add _ ∙ length-map before f ∙ length-front numbers k in
     rw (add-one, map-append f before (getD numbers k 0 ∷ []), ← m, long)
 
 pub front-told :
@@ -200,18 +200,18 @@ pub front-told :
     cells ≡ sets (replicate 89 noSharer) 0 (map sharerNumbered (front numbers k)) →
     record { number = number; count = count; cells = cells } ≡ cellAnswer number (front numbers count)
 unfolding cellAnswer
-front-told number numbers k count cells e p = rw (p, e, length-first numbers count)
+front-told number numbers k count cells e p = rw (p, e, length-front numbers count)
 
-first-take : (numbers : List ℕ) (n : ℕ) → n ≤ length numbers → front numbers n ≡ take n numbers
+front-take : (numbers : List ℕ) (n : ℕ) → n ≤ length numbers → front numbers n ≡ take n numbers
 unfolding front
-first-take numbers zero h = refl
-first-take numbers (suc n) h = rw (first-take numbers n (omega arith), take-suc numbers n 0 h)
+front-take numbers zero h = refl
+front-take numbers (suc n) h = rw (front-take numbers n (omega arith), take-suc numbers n 0 h)
 
 -- what was put at the front of a list is read there
 pub front-back :
     (room listed : List ℕ) → length listed ≤ length room → front (sets room 0 listed) (length listed) ≡ listed
 front-back room listed h =
-    first-take (sets room 0 listed) (length listed) (rw length-sets h)
+    front-take (sets room 0 listed) (length listed) (rw length-sets h)
     ∙ rw (sets-eq listed room 0 (omega arith)) (take-append-seam listed (drop (0 + length listed) room))
 
 abbrev pub itself : ℕ → ℕ

@@ -78,8 +78,7 @@ cellAnswer number listed =
     }
 
 unfoldable pub cellLabel : List ℕ → Settings → ℕ → CellLabel
-cellLabel ram s cell =
-    cellAnswer (cellRefusal ram s cell) (sharersOf ram s cell)
+cellLabel ram s cell = cellAnswer (cellRefusal ram s cell) (sharersOf ram s cell)
 
 -- the answer that names these unsound cells beside so many pairs
 unfoldable pub areaAnswer : ℕ → List ℕ → ℕ → AreaLabel

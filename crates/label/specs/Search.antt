@@ -12,7 +12,7 @@ use Rattle.windows.specs.Window.{windowsMeet}
 use Rattle.cells.specs.Cell.{cellAt, cellWindow, soundCell}
 use Rattle.label.specs.Listing.{passing}
 
--- a sound cell, and another than the one whose window this is, whose window meets it
+-- a sound cell other than `cell`, whose window meets `own`, the window of `cell`
 unfoldable pub sharesWindow : List ℕ → Settings → Window → Window → ℕ → Kind → ℕ → Bool
 sharesWindow ram s stack own cell kind sub =
     windowsMeet own (cellWindow (cellAt ram (s .area) kind sub))

@@ -8,7 +8,7 @@ ghost use Rattle.label.specs.Listing.{front};
 ghost use Rattle.label.specs.Label.{takesPart, meetingCells, sharerNumbered, cellAnswer, cellLabel, cellRefusal, sharersOf, countedOf};
 ghost use Rattle.label.specs.Search.{sharesWindow, sharersOfKind};
 use area::area::ground_refusal;
-use cells::cell::cell_at;
+use cells::cell::cell_by_kind;
 use cells::cell::sound_cell;
 use cells::cell::sound_within;
 use cells::cell::window_of;
@@ -64,7 +64,7 @@ fn shares_window(
     ensures { λ r. ⌜ r ≡ sharesWindow (now (ram .entry)) s stack own cell kind subaddress ⌝ }
 {
     let area = s.area;
-    let c = cell_at(ram, area, kind, subaddress);
+    let c = cell_by_kind(ram, area, kind, subaddress);
     let scheme = c.scheme;
     let w = window_of(scheme, c.pointer);
     if no(windows_meet(own, w)) {

@@ -10,10 +10,10 @@ use mathlib.Core.List.{List}
 use lib.ListN.{getD}
 use lib.Dec.{eqb}
 use borrow.Author.Tests.{eq-eqb, eqb-true}
-use Rattle.words.proofs.Basics.{lt-or-ge, eq-or-ne, and-left, and-right, and-both}
+use Rattle.words.proofs.Basics.{lt-or-ge, and-left, and-right}
 use Rattle.records.specs.Value.{lastsZero}
 use Rattle.layout.specs.Fields.{numberAt}
-use Rattle.layout.specs.Layout.{wordAt, areZero, wordsIn}
+use Rattle.layout.specs.Layout.{areZero, wordsIn}
 use Rattle.layout.proofs.Numbers.{zeros-number, number-zeros}
 use Rattle.layout.proofs.Places.{are-zero-at, are-zero-of, word-at, lasts-zero-at, lasts-zero-of}
 

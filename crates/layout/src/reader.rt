@@ -122,8 +122,8 @@ fn eight_are_zero(s: &[u8], from: usize) -> bool
     number_of(&s[from..from + 8]) == 0
 }
 
-// Whether all bytes from `from` on are zero, eight at a time. The last eight overlap those before them, so that one
-// shape fits every `from`.
+// Whether all bytes from `from` on are zero, eight at a time. The last eight may overlap those before them, so that
+// one shape fits every `from`.
 fn all_are_zero(s: &[u8], from: usize) -> bool
     requires { ⌜ (length (now s) ≡ 80) × (from ≤ 24) × (16 ≤ from) ⌝ }
     ensures { λ r. ⌜ r ≡ areZero (now (s .entry)) from (80 - from) ⌝ }
@@ -158,7 +158,7 @@ fn lasts_keep_limits(s: &[u8], count: u8) -> bool
     ok
 }
 
-// The same, with a shorter way where there are few words, or no word.
+// The same: with at most four words eight bytes at a time, and with 32 nothing is left to test.
 fn lasts_are_zero(s: &[u8], count: u8) -> bool
     requires { ⌜ length (now s) ≡ 80 ⌝ }
     ensures { λ r. ⌜ r ≡ lastsZero (wordsIn (now (s .entry))) count 32 ⌝ }

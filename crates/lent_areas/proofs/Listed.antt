@@ -14,7 +14,7 @@ use Rattle.label.specs.declared.one.Counted.{Counted}
 use Rattle.label.specs.declared.one.Sharer.{Sharer}
 use Rattle.label.specs.Listing.{front}
 use Rattle.label.specs.Label.{sharerNumbered, noSharer, sharersOf, countedOf, cellAnswer, cellLabel}
-use Rattle.label.proofs.Turns.{length-first}
+use Rattle.label.proofs.Turns.{length-front}
 use Rattle.label.proofs.Found.{counted-most, counted-front}
 use Rattle.lent.specs.Over.{over}
 use Rattle.lent.proofs.Order.{set-later}
@@ -59,7 +59,7 @@ words-more xs numbers k =
     let before = map sharerNumbered (front numbers k) in
     let next = sharerNumbered (getD numbers k 0) ∷ [] in
     let long : 1 + length (sharerWords before) ≡ 1 + 2 * k =
-    rw (words-length before, length-map (front numbers k) sharerNumbered, length-first numbers k) in
+    rw (words-length before, length-map (front numbers k) sharerNumbered, length-front numbers k) in
     let m = rw long at (sets-append xs (sharerWords before) (sharerWords next) 1) in
     rw (add-one, map-append sharerNumbered (front numbers k) (getD numbers k 0 ∷ []), words-append before next) m
 

@@ -4,10 +4,8 @@ use native.Mathlib.Omega.{arith}
 use mathlib.Core.Path.{_≡_, _∙_}
 use mathlib.Core.Bool.{Bool, true, false, cond}
 use mathlib.Core.List.{[], _∷_}
-use lib.Dec.{eqb}
 use lib.ListN.{length, getD, replicate, length-replicate}
 use borrow.Author.Tests.{eq-eqb, ne-eqb}
-use Rattle.words.specs.Fill.{fill}
 use Rattle.words.proofs.Fill.{length-fill, fill-at}
 use Rattle.text.specs.Text.{hexDigit, hexText}
 use Rattle.text.specs.Table.{tableDigit, hexTable}
@@ -53,7 +51,6 @@ pub table-text :
 unfolding hexText
 table-text w h =
     let a : w / 256 / 16 ≡ w / 4096 % 16 = omega arith in
-    let b : w / 256 % 16 ≡ w / 256 % 16 = omega arith in
     let c : w % 256 / 16 ≡ w / 16 % 16 = omega arith in
     let d : w % 256 % 16 ≡ w % 16 = omega arith in
     rw (

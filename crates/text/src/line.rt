@@ -96,7 +96,8 @@ fn put_refused(out: &mut [u8], at: usize, refusal: u16) -> usize
     put_newline(out, end)
 }
 
-// The columns of a record's line after its place, accepted or refused. Only where the buffer ends is each byte tested.
+// The columns of a record's line after its place, accepted or refused. Of an accepted one each byte is tested only where
+// the buffer ends.
 pub fn put_columns(out: &mut [u8], at: usize, a: Answer, table: &[u8]) -> usize
     requires { ⌜ now table ≡ hexTable ⌝ }
     ensures { λ r. ⌜ Put (now (out .entry)) at (columnsOf a) (now (out .exit)) r ⌝ }

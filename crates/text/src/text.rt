@@ -38,15 +38,11 @@ pub(crate) fn write_byte(out: &mut [u8], at: usize, b: u8) -> usize
     at + 1
 }
 
-// Whether n bytes from the place `at` on lie in a buffer of this length.
-pub(crate) fn has_room(length: usize, at: usize, n: usize) -> bool
-    ensures { λ r. ⌜ r ≡ leb (at + n) length ⌝ }
+// Whether n bytes from the place `at` on lie in a buffer of this size.
+pub(crate) fn has_room(size: usize, at: usize, n: usize) -> bool
+    ensures { λ r. ⌜ r ≡ leb (at + n) size ⌝ }
 {
-    if at <= length {
-        n <= length - at
-    } else {
-        false
-    }
+    if at <= size { n <= size - at } else { false }
 }
 
 // The bytes of `s` at `at`, and the place after them.

@@ -7,8 +7,8 @@ use Rattle.label.specs.Search.{sharesWindow}
 use Rattle.label.proofs.one.shares_window.Statement.{statement}
 use Rattle.label.proofs.one.shares_window.Tie as tie
 
-cell-at-requires : tie.Need-cell-at-requires
-cell-at-requires c κs = search needs
+cell-by-kind-requires : tie.Need-cell-by-kind-requires
+cell-by-kind-requires c κs = search needs
 
 window-of-requires : tie.Need-window-of-requires
 window-of-requires c κs = search needs
@@ -26,7 +26,7 @@ returns c =
     let meet = asked .before in
     let window = meet .before in
     rw (
-      ← (window .before .cell-at .ensures),
+      ← (window .before .cell-by-kind .ensures),
       ← (window .window-of .ensures),
       ← (meet .windows-meet .ensures),
       not-true (meet .windows-meet .result) (sym (asked .no .ensures) ∙ c .if1 .taken),
@@ -45,7 +45,7 @@ returns-2 c =
     let window = meet .before in
     let a = window .before .before .before .args in
     rw (
-      ← (window .before .cell-at .ensures),
+      ← (window .before .cell-by-kind .ensures),
       ← (window .window-of .ensures),
       ← (meet .windows-meet .ensures),
       not-false (meet .windows-meet .result) (sym (asked .no .ensures) ∙ met .if1 .left),
@@ -66,7 +66,7 @@ returns-3 c =
     let window = meet .before in
     let a = window .before .before .before .args in
     rw (
-      ← (window .before .cell-at .ensures),
+      ← (window .before .cell-by-kind .ensures),
       ← (window .window-of .ensures),
       ← (meet .windows-meet .ensures),
       not-false (meet .windows-meet .result) (sym (asked .no .ensures) ∙ met .if1 .left),
@@ -78,7 +78,7 @@ pub shares-window-spec : {M : Type 1} → statement M
 shares-window-spec =
     tie.close
     (tie.spec
-    cell-at-requires
+    cell-by-kind-requires
     window-of-requires
     windows-meet-requires
     no-requires

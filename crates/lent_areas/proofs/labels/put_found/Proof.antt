@@ -2,7 +2,7 @@
 use borrow.Author.Needs.{needs}
 use native.Mathlib.Omega.{arith}
 use mathlib.Core.Path.{sym}
-use Rattle.label.proofs.Turns.{length-first}
+use Rattle.label.proofs.Turns.{length-front}
 use Rattle.lent_areas.proofs.Listed.{listing-over}
 use Rattle.lent_areas.proofs.labels.put_found.Statement.{statement}
 use Rattle.lent_areas.proofs.labels.put_found.Tie as tie
@@ -32,7 +32,7 @@ returns c =
     let least = counted .before .before in
     let zeros = least .before .before .before in
     rw (each .put-sharers .ensures, counted .put .ensures, zeros .put-no-listing .ensures, least .smaller .ensures)
-    (listing-over _ _ _ (sym (length-first _ _)) (omega arith))
+    (listing-over _ _ _ (sym (length-front _ _)) (omega arith))
 
 pub put-found-spec : {M : Type 1} → statement M
 put-found-spec =

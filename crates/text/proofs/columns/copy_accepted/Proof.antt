@@ -1,5 +1,4 @@
 -- `copy_accepted` meets its contract.
-use native.Mathlib.Omega.{arith}
 use borrow.Author.Needs.{needs}
 use Rattle.text.specs.Line.{acceptedColumns}
 use Rattle.text.proofs.Runs.{put-then}

@@ -1,5 +1,4 @@
 -- `copy_status` meets its contract, by the mark that says whether a status was sent.
-use native.Mathlib.Omega.{arith}
 use borrow.Author.Needs.{needs}
 use Rattle.text.specs.Line.{statusText}
 use Rattle.text.proofs.columns.copy_status.Statement.{statement}

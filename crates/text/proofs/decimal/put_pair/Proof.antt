@@ -1,5 +1,4 @@
 -- `put_pair` meets its contract.
-use native.Mathlib.Omega.{arith}
 use borrow.Author.Needs.{needs}
 use Rattle.text.specs.Text.{digits}
 use Rattle.text.proofs.Runs.{put-then}

@@ -1,5 +1,4 @@
 -- `has_room` meets its contract.
-use borrow.Author.Needs.{needs}
 use native.Mathlib.Omega.{arith}
 use borrow.Author.Tests.{lt-leb}
 use mathlib.Core.Path.{sym}
@@ -12,7 +11,7 @@ returns : tie.Need-returns
 returns c = room-left _ _ _ (c .if1 .taken)
 
 returns-2 : tie.Need-returns-2
-returns-2 c = let a = c .before .args in sym (lt-leb (a .at + a .n) (a .length) (omega arith))
+returns-2 c = let a = c .before .args in sym (lt-leb (a .at + a .n) (a .size) (omega arith))
 
 pub has-room-spec : {M : Type 1} → statement M
 has-room-spec = tie.close (tie.spec returns returns-2)

@@ -1,5 +1,4 @@
 -- `walk_one` meets its contract.
-use native.Mathlib.Omega.{arith}
 use borrow.Author.Needs.{needs}
 use Rattle.text.specs.Line.{lineOf}
 use Rattle.text.proofs.Runs.{put-then}

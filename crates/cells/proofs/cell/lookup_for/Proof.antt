@@ -1,7 +1,7 @@
 -- `lookup_for` meets its contract: a case for each kind.
 use borrow.Author.Needs.{needs}
-use Rattle.arrival.proofs.target.lookup_for.Statement.{statement}
-use Rattle.arrival.proofs.target.lookup_for.Tie as tie
+use Rattle.cells.proofs.cell.lookup_for.Statement.{statement}
+use Rattle.cells.proofs.cell.lookup_for.Tie as tie
 
 enum-told : tie.Need-enum-told
 enum-told c = search needs
