@@ -1,6 +1,6 @@
 -- Any fault, in three parts: a flag tells one, the count is wrong, or the contents are. That a told fault hides a wrong
 -- count makes no difference to it.
-use mathlib.Core.Path.{_≡_, refl}
+use mathlib.Core.Path.{_≡_, refl, sym}
 use mathlib.Core.Bool.{Bool, true, false, not, _&&_, _||_, and-true, or-true, or-false}
 use lib.Dec.{eqb}
 use Rattle.records.specs.declared.value.Record.{Record}
@@ -25,3 +25,14 @@ fault-parts broadcast v =
     (hasNoStatus v || (hasWrongGap v || hasBadSecond v))
     (not (eqb (v .count) (expectedWords (v .command))))
     (broadcast && transmits (v .command))
+
+-- the same of what was worked out, part by part
+pub parts-say :
+    (broadcast : Bool) (v : Record) {told wrong contents late any : Bool} →
+    told ≡ toldFault v →
+    wrong ≡ not (eqb (v .count) (expectedWords (v .command))) →
+    contents ≡ (broadcast && transmits (v .command)) →
+    late ≡ (wrong || contents) →
+    any ≡ (told || late) →
+    any ≡ anyFault (faultsFor broadcast v)
+parts-say broadcast v t w c l a = rw (a, l, t, w, c) (sym (fault-parts broadcast v))

@@ -1,7 +1,11 @@
 -- `at_fault` meets its contract: the three parts of any fault.
 use borrow.Author.Needs.{needs}
-use mathlib.Core.Path.{sym}
-use Rattle.faults.proofs.Parts.{fault-parts}
+use mathlib.Core.Path.{_≡_}
+use mathlib.Core.Bool.{not, _&&_}
+use lib.Dec.{eqb}
+use Rattle.words.specs.Command.{transmits}
+use Rattle.faults.specs.Fault.{expectedWords}
+use Rattle.faults.proofs.Parts.{parts-say}
 use Rattle.faults.proofs.fault.at_fault.Statement.{statement}
 use Rattle.faults.proofs.fault.at_fault.Tie as tie
 
@@ -35,16 +39,11 @@ returns c =
     let contents = told .before in
     let wrong = contents .before .before in
     let a = wrong .before .before .before .args in
-    rw (
-      c .either2 .ensures,
-      c .before .either .ensures,
-      told .told-fault .ensures,
-      contents .both .ensures,
-      contents .before .transmit .ensures,
-      wrong .no .ensures,
-      wrong .before .expected-words .ensures,
-    )
-    (sym (fault-parts (a .broadcast) (a .v)))
+    let w : wrong .no .result ≡ not (eqb (a .v .count) (expectedWords (a .v .command))) =
+    rw (wrong .no .ensures, wrong .before .expected-words .ensures) in
+    let k : contents .both .result ≡ (a .broadcast && transmits (a .v .command)) =
+    rw (contents .both .ensures, contents .before .transmit .ensures) in
+    parts-say (a .broadcast) (a .v) (told .told-fault .ensures) w k (c .before .either .ensures) (c .either2 .ensures)
 
 pub at-fault-spec : {M : Type 1} → statement M
 at-fault-spec =
