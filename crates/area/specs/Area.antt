@@ -1,7 +1,8 @@
 -- The whole-area check. "The whole-area check answers the first of 1, 3, 8, or 9 with the lowest unsound cell number
 -- among subaddresses 1-30; broadcast cells are read only if separate-broadcast is on."
-use Prim.Native.Nat.{ℕ, zero, suc, _%_}
-use mathlib.Core.Bool.{Bool, not, cond, _&&_, _||_}
+use Prim.Native.Nat.{ℕ, zero, suc, _%_, _<_}
+use mathlib.Core.Path.{_≡_}
+use mathlib.Core.Bool.{Bool, true, false, not, cond, _&&_, _||_}
 use mathlib.Core.List.{List, [], _∷_, _++_}
 use lib.ListN.{length}
 use lib.Dec.{ltb, leb, eqb}
@@ -43,6 +44,11 @@ lowest bad (suc n) = orElse (lowest bad n) (bad n) n
 -- "the lowest unsound cell number"
 unfoldable pub lowestUnsound : List ℕ → Settings → ℕ
 lowestUnsound ram s = lowest (isUnsound ram s (stackWindow ram s)) 96
+
+-- the same as a fact: a cell is bad, and no cell with a lower number is
+pub record LowestUnsound (ram : List ℕ) (s : Settings) (cell : ℕ) : Type 0 where
+  pub unsound : isUnsound ram s (stackWindow ram s) cell ≡ true
+  pub first : (n : ℕ) → n < cell → isUnsound ram s (stackWindow ram s) n ≡ false
 
 -- what is tested of RAM and settings before a cell is looked at
 abbrev pub groundTests : List ℕ → Settings → List Test

@@ -3,15 +3,16 @@ use Prim.Native.Nat.{ℕ, _+_, _-_, _/_, _%_}
 use native.Mathlib.Omega.{arith}
 use mathlib.Core.Path.{_≡_, refl, sym, ap, _∙_}
 use mathlib.Core.Logic.{⊎-elim}
-use mathlib.Core.Bool.{true, not, cond}
+use mathlib.Core.Bool.{true, false, not, cond}
 use mathlib.Core.List.{List, [], _∷_}
-use lib.ListN.{take, drop, replicate}
+use lib.ListN.{length, take, drop, replicate}
+use lib.Seq.{sets}
 use lib.Dec.{eqb}
 use borrow.Author.Tests.{eq-eqb, ne-eqb}
 use Rattle.words.specs.Number.{recordLayout}
 use Rattle.words.specs.Refusal.{Test, _when_, firstOf}
 use Rattle.words.specs.declared.settings.Settings.{Settings}
-use Rattle.words.proofs.Basics.{eq-or-ne}
+use Rattle.words.proofs.Basics.{yes-or-no, eq-or-ne}
 use Rattle.words.proofs.Refusals.{numbered, first-zero, first-number}
 use Rattle.memory.specs.State.{State}
 use Rattle.records.specs.declared.value.Record.{Record}
@@ -20,12 +21,14 @@ use Rattle.layout.specs.declared.reader.Reading.{Reading}
 use Rattle.layout.specs.declared.writer.Written.{Written}
 use Rattle.layout.specs.Layout.{valueIn, readerRefusal, readRecord, notRead}
 use Rattle.layout.specs.Writing.{zeroBytes, bytesOf, writerRefusal, writeRecord}
+use Rattle.layout.specs.RoundTrip.{readBack, writeBack}
 use Rattle.layout.proofs.reader
 use Rattle.layout.proofs.writer
 use Rattle.area.specs.declared.area.Checked.{Checked}
 use Rattle.label.specs.declared.one.CellLabel.{CellLabel}
+use Rattle.label.specs.declared.one.Counted.{Counted}
 use Rattle.label.specs.declared.whole.AreaLabel.{AreaLabel}
-use Rattle.label.specs.Label.{cellTests, cellRefusal, cellAnswer, cellLabel, areaAnswer, areaPairs, areaUnsound, areaLabel, pairsInto}
+use Rattle.label.specs.Label.{cellTests, cellRefusal, sharersOf, countedOf, cellAnswer, cellLabel, areaAnswer, areaPairs, areaUnsound, areaLabel, pairsInto}
 use Rattle.area.specs.Area.{groundTests, groundRefusal, areaTests, areaRefusal, checkArea}
 use Rattle.area.proofs.area
 use Rattle.area.proofs.Whole.{area-unsound, area-no-cell}
@@ -48,7 +51,9 @@ use Rattle.lent_areas.specs.Labels.{listingWords, countWords}
 use Rattle.lent_messages.proofs.Refused.{message-refused}
 use Rattle.boundary.proofs.Refused.{read-refused, write-refused, label-cell-refused, counts-refused, unsound-refused, pairs-refused}
 use Rattle.lent_areas.proofs.Halves.{upper-half, lower-half}
-use Rattle.demands.specs.First.{writerTests, ExportedAnswered, TakeAnswered, rising, Answered, MessageAnswered, CheckAnswered, ReadAnswered, WriteAnswered}
+use Rattle.demands.specs.Answered.{rising, Answered}
+use Rattle.demands.specs.Meets.{MessageAnswered}
+use Rattle.demands.specs.First.{writerTests, NumberAnswered, ExportedAnswered, TakeAnswered, CheckAnswered, ReadAnswered, WriteAnswered}
 
 -- where the number is that of the first test that holds, what is left to show is what a refusal gives back and leaves
 pub answered :
@@ -135,7 +140,54 @@ write-answered v back e =
     (λ n. record { number = n; bytes = zeroBytes }) v
     refl refl refl (λ n. refl) e
 
+-- the function that writes and reads, and the one that reads and writes
+pub read-back-answered :
+    (v : Record) (back : Reading) →
+    back ≡ readBack v →
+    Answered (writerTests v) (back .number) back notRead v v
+unfolding readBack notRead firstOf
+read-back-answered v back e =
+    by-number (writerTests v) (λ r. r .number) back (record { number = 0; value = v }) notRead v refl refl refl
+    (λ n. refl)
+    (e ∙ ⊎-elim (λ (y : keepsLayout v ≡ true). rw y) (λ (n : keepsLayout v ≡ false). rw n) (yes-or-no (keepsLayout v)))
+
+pub write-back-answered :
+    (bytes : List ℕ) (back : Written) →
+    back ≡ writeBack bytes →
+    Answered (recordTests (heardBytes bytes)) (back .number) back (λ n. record { number = n; bytes = zeroBytes }) bytes
+    bytes
+unfolding writeBack readerRefusal
+write-back-answered bytes back e =
+    by-number (recordTests (heardBytes bytes)) (λ w. w .number) back (record { number = 0; bytes = bytes })
+    (λ n. record { number = n; bytes = zeroBytes })
+    bytes
+    refl refl refl (λ n. refl) e
+
+-- the number alone
+pub number-answered :
+    (tests : List Test) (number : ℕ) →
+    rising tests ≡ true →
+    numbered tests ≡ true →
+    number ≡ firstOf tests →
+    NumberAnswered tests number
+number-answered tests number order some e =
+    answered {Lent = Unit {0}} tests number number (λ n. n) tt tt order some e (λ m. refl) (λ m. refl)
+
 -- ---- the label
+
+pub sharers-found :
+    (ram : List ℕ) (s : Settings) (cell : ℕ) (numbers after : List ℕ) (back : Counted) →
+    back ≡ countedOf ram s cell →
+    after ≡ sets numbers 0 (sharersOf ram s cell) →
+    Answered (cellTests ram s cell) (back .number) back (λ n. record { number = n; count = 0 }) numbers after
+unfolding countedOf cellRefusal
+sharers-found ram s cell numbers after back e f =
+    let told : back .number ≡ cellRefusal ram s cell = ap (λ (c : Counted). c .number) e in
+    let none : (back .number ≡ 0 → ⊥) → sharersOf ram s cell ≡ [] =
+    λ m. rw (ne-eqb (cellRefusal ram s cell) 0 (λ z. m (told ∙ z))) in
+    answered (cellTests ram s cell) (back .number) back _ numbers after refl refl told
+    (λ m i. record { number = back .number; count = (ap (λ (c : Counted). c .count) e ∙ ap (λ (l : List ℕ). length l) (none m)) i })
+    (λ m. f ∙ rw (none m))
 
 pub cell-labelled :
     (ram : List ℕ) (s : Settings) (cell : ℕ) (back : CellLabel) →

@@ -28,7 +28,8 @@ use Rattle.replay.specs.declared.fill.Filled.{Filled}
 use Rattle.lent.specs.Over.{over}
 use Rattle.boundary_origins.specs.Origins.{partWords, LentTables, tablesAfter}
 use Rattle.boundary_origins.proofs.NotTold.{fill-refused, not-told, who-refused}
-use Rattle.demands.specs.First.{rising, Answered, AskAnswered, GoOnAnswered, entryTests, ToldAnswered}
+use Rattle.demands.specs.Answered.{rising, Answered}
+use Rattle.demands.specs.First.{AskAnswered, GoOnAnswered, entryTests, ToldAnswered}
 use Rattle.demands.proofs.Answered.{answered}
 
 -- an answer with a number is that refusal

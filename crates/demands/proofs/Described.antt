@@ -14,7 +14,7 @@ use Rattle.described.specs.Described.{givenTests, givenRefusal, describedCell, 
 use Rattle.lent.specs.Over.{over}
 use Rattle.lent_areas.specs.Descriptions.{cellWords, stackWords}
 use Rattle.boundary.proofs.NotDescribed.{describe-cell-refused, describe-stack-refused}
-use Rattle.demands.specs.First.{Answered}
+use Rattle.demands.specs.Answered.{Answered}
 use Rattle.demands.proofs.Answered.{answered, by-number}
 
 module _ (ram : List ℕ) (s : Settings) where

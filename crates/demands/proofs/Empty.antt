@@ -26,18 +26,9 @@ use Rattle.message.proofs.Edges.{edges}
 use Rattle.message.proofs.Refusals.{message-done, number-told, accepted-answer}
 use Rattle.message.proofs.Sure.{accepted-sure}
 use Rattle.trace.specs.Walk.{wholeRecords}
-use Rattle.demands.specs.Calls.{Message, Walk, Walked, walked}
+use Rattle.demands.specs.Calls.{Message, Walked}
+use Rattle.demands.specs.Meets.{deed, Meets}
 use Rattle.demands.specs.Walks.{recordsHeard, Walks}
-use Rattle.demands.specs.First.{MessageAnswered}
-use Rattle.demands.specs.Second.{deed, MessageWorked}
-use Rattle.demands.proofs.Answered.{step-answered}
-use Rattle.demands.proofs.Worked.{stepped, message-worked}
-use Rattle.demands.proofs.Walks.{walks}
-
--- what demands 1 and 2 say of a message
-pub record Meets (m : Message) : Type 0 where
-  pub first : MessageAnswered m
-  pub second : MessageWorked m
 
 -- whatever is heard, in whatever state
 pub record Terminal : Type 0 where
@@ -47,9 +38,9 @@ pub record Terminal : Type 0 where
 abbrev pub message : Terminal → Settings → Heard → State → Message
 message t s h x = record { settings = s; heard = h; before = x; answer = t .answer s h x; after = t .after s h x }
 
--- `done`: what no test refuses is taken
+-- `accepted`: what no test refuses is taken
 taken : (m : Message) → Meets m → refusalFor (m .settings) (m .heard) (m .before) ≡ 0 → m .answer .number ≡ 0
-taken m k e = k .first .done .1 (message-done (m .settings) (m .heard) (m .before) .0 e)
+taken m k e = k .second .accepted (message-done (m .settings) (m .heard) (m .before) .0 e)
 
 -- and what is taken no test refuses
 no-test : (m : Message) → Meets m → m .answer .number ≡ 0 → refusalFor (m .settings) (m .heard) (m .before) ≡ 0
@@ -86,13 +77,13 @@ module _ (t : Terminal) (n : ℕ) (k : Meets (ofCase t n)) (z : rowOf n .answer 
   row-answer : it .answer ≡ rowOf n .answer
   unfolding runCase
   row-answer =
-      k .second row-taken .answer
+      k .second .worked row-taken .answer
       ∙ sym (accepted-answer (it .settings) (it .heard) (it .before) passes)
       ∙ ap (λ (r : Row). r .answer) (row n)
 
   row-reply : it .after .reply ≡ rowOf n .sends ++ drop (length (rowOf n .sends)) (it .before .reply)
   unfolding runCase
-  row-reply = rw (← (ap (λ (r : Row). r .sends) (row n))) (k .second row-taken .reply)
+  row-reply = rw (← (ap (λ (r : Row). r .sends) (row n))) (k .second .worked row-taken .reply)
 
 -- ---- one that refuses everything
 
@@ -143,7 +134,7 @@ ram-touched m k z e =
     let w = stackWindow ram s in
     let here = stack-word ram s (f .agreed) (f .stack) 0 (omega arith) in
     let none : stackPointer ram s + 0 ≡ stackPointer ram s = omega arith in
-    let on : stackPointer ram s ≡ placeOf w 4 = ap (λ (r : List ℕ). stackPointer r s) (sym e) ∙ k .second z .stack in
+    let on : stackPointer ram s ≡ placeOf w 4 = ap (λ (r : List ℕ). stackPointer r s) (sym e) ∙ k .second .worked z .stack in
     places-differ w 0 4 (omega arith) (omega arith) (here ∙ none ∙ on)
 
 pub touches-no-ram :
@@ -156,14 +147,8 @@ touches-no-ram t k same = ram-touched (ofCase t 0) (k _ _ _) (row-taken t 0 (k _
 
 -- ---- one that handles the first record and only numbers the rest
 
--- every walk is a chain of messages that meet both demands
-pub walk-meets : (c : Walk) → Walks Meets (walked c)
-walk-meets c =
-    let s = walked c .settings in
-    walks Meets c (λ h x. record { first = step-answered s h x; second = message-worked (stepped s h x) refl refl })
-
 pub only-numbers-the-rest :
-    (w : Walked) (k : Walks Meets w) (a b : Message) →
+    (w : Walked) (k : Walks w) (a b : Message) →
     k .messages ≡ a ∷ b ∷ [] →
     b .answer .number ≡ 0 →
     w .after .ram ≡ a .after .ram →
@@ -178,7 +163,7 @@ only-numbers-the-rest w k a b e z same =
 
 pub invents-words : (m : Message) → Meets m → m .answer .number ≡ 0 → (m .answer .sent ≡ deed m .sent → ⊥) → ⊥
 unfolding acceptedWith
-invents-words m k z other = other (ap (λ (r : Answer). r .sent) (k .second z .answer))
+invents-words m k z other = other (ap (λ (r : Answer). r .sent) (k .second .worked z .answer))
 
 records-heard : (trace : List ℕ) (n : ℕ) → length (recordsHeard trace n) ≡ n
 unfolding recordsHeard
@@ -187,7 +172,7 @@ records-heard trace (suc n) = simp (length-append, records-heard trace n) (omega
 
 pub invents-records :
     (w : Walked) →
-    Walks Meets w →
+    Walks w →
     w .from < 2 ^ 64 →
     (w .number ≡ (w .from + wholeRecords (w .trace)) % 2 ^ 64 → ⊥) →
     ⊥

@@ -1,7 +1,14 @@
 -- Demand 1, proved.
+use Prim.Native.Nat.{ℕ}
+use mathlib.Core.Path.{_≡_, refl, _∙_}
+use mathlib.Core.List.{List}
 use denote.Ref.{now}
+use Rattle.words.specs.declared.settings.Settings.{Settings}
+use Rattle.words.specs.Refusal.{firstOf}
 use Rattle.layout.proofs.reader
 use Rattle.layout.proofs.writer
+use Rattle.layout.proofs.round_trip
+use Rattle.area.specs.Area.{groundTests, groundRefusal}
 use Rattle.area.proofs.area
 use Rattle.label.proofs.one
 use Rattle.label.proofs.whole
@@ -9,9 +16,12 @@ use Rattle.described.proofs.cell as described-cell
 use Rattle.described.proofs.stack as described-stack
 use Rattle.boundary.proofs.descriptions
 use Rattle.demands.proofs.Described.{cell-described, stack-described, exported-cell-described, exported-stack-described}
+use Rattle.message.proofs.heard
 use Rattle.message.proofs.serve
 use Rattle.trace.proofs.walk
 use Rattle.who.specs.Replay.{heardIn}
+use Rattle.who.specs.Tests.{replayTests, replayRefusal, whoTests, whoRefusal}
+use Rattle.who.proofs.tests
 use Rattle.tables.proofs.table
 use Rattle.replay.proofs.question
 use Rattle.replay.proofs.fill
@@ -23,11 +33,26 @@ use Rattle.boundary_bytes.proofs.from_bytes
 use Rattle.boundary_values.proofs.from_value
 use Rattle.boundary.proofs.calls
 use Rattle.boundary_origins.proofs.origins
-use Rattle.demands.specs.Calls.{fromBytes, fromValue, walked, exportedBytes, exportedValue}
-use Rattle.demands.specs.First.{MessageAnswered, Demand}
-use Rattle.demands.proofs.Answered.{step-answered, message-answered, check-answered, read-answered, write-answered, cell-labelled, area-labelled, take-answered, exported-answered, exported-check, exported-read-answered, exported-write-answered, exported-cell-labelled, exported-area-labelled}
+use Rattle.demands.specs.Calls.{fromBytes, fromValue, performBytes, performValue, exportedBytes, exportedValue}
+use Rattle.demands.specs.First.{Demand}
+use Rattle.demands.proofs.Answered.{message-answered, check-answered, read-answered, write-answered, read-back-answered, write-back-answered, number-answered, sharers-found, cell-labelled, area-labelled, take-answered, exported-answered, exported-check, exported-read-answered, exported-write-answered, exported-cell-labelled, exported-area-labelled}
 use Rattle.demands.proofs.Asked.{ask-answered, go-on-answered, fill-answered, entry-answered, exported-who-answered, exported-fill-answered, exported-entry-answered}
+use Rattle.demands.proofs.Served.{served-meets}
+use Rattle.demands.proofs.Called.{perform-bytes, perform-value}
 use Rattle.demands.proofs.Walks.{walks}
+
+-- what the three functions that only test answer
+ground-first : (ram : List ℕ) (s : Settings) → groundRefusal ram s ≡ firstOf (groundTests ram s)
+unfolding groundRefusal
+ground-first ram s = refl
+
+replay-first : (words : ℕ) (s : Settings) → replayRefusal words s ≡ firstOf (replayTests words s)
+unfolding replayRefusal
+replay-first words s = refl
+
+who-first : (words : ℕ) (s : Settings) (a : ℕ) → whoRefusal words s a ≡ firstOf (whoTests words s a)
+unfolding whoRefusal
+who-first words s a = refl
 
 pub first : Demand
 first =
@@ -43,6 +68,18 @@ first =
             any = λ κs given. tt;
             ends = serve.message_from_value.Met.met;
             says = λ c. message-answered (fromValue c) (c .allowed .0) (c .allowed .1);
+          };
+      perform-bytes =
+          record {
+            any = λ κs given. tt;
+            ends = heard.perform_bytes.Met.met;
+            says = λ c. served-meets (performBytes c) (perform-bytes c) .first;
+          };
+      perform-value =
+          record {
+            any = λ κs given. tt;
+            ends = heard.perform_value.Met.met;
+            says = λ c. served-meets (performValue c) (perform-value c) .first;
           };
       check-area =
           record {
@@ -62,11 +99,32 @@ first =
             ends = writer.write.Met.met;
             says = λ c. write-answered (c .given .0) (c .back) (c .allowed);
           };
+      read-written =
+          record {
+            any = λ κs given. tt;
+            ends = round_trip.read_written.Met.met;
+            says = λ c. read-back-answered (c .given .0) (c .back) (c .allowed);
+          };
+      write-read =
+          record {
+            any = λ κs given. tt;
+            ends = round_trip.write_read.Met.met;
+            says = λ c. write-back-answered (now (c .given .0)) (c .back) (c .allowed);
+          };
       label-cell =
           record {
             any = λ κs given. tt;
             ends = one.label_cell.Met.met;
             says = λ c. cell-labelled (now (c .given .0)) (c .given .1 .0) (c .given .1 .1 .0) (c .back) (c .allowed);
+          };
+      find-sharers =
+          record {
+            any = λ κs given. tt;
+            ends = one.find_sharers.Met.met;
+            says =
+                λ c.
+                sharers-found (now (c .given .0)) (c .given .1 .0) (c .given .1 .1 .0) (now (c .given .1 .1 .1 .0))
+                (c .left .1 .1 .1 .0) (c .back) (c .allowed .0) (c .allowed .1);
           };
       label-area =
           record {
@@ -77,6 +135,33 @@ first =
                 area-labelled (now (c .given .0)) (c .given .1 .0) (now (c .given .1 .1 .0)) (c .left .1 .1 .0) (c .back)
                 (c .allowed .0)
                 (c .allowed .1);
+          };
+      ground-refusal =
+          record {
+            any = λ κs given. tt;
+            ends = area.ground_refusal.Met.met;
+            says =
+                λ c.
+                number-answered (groundTests (now (c .given .0)) (c .given .1 .0)) (c .back) refl refl
+                (c .allowed ∙ ground-first (now (c .given .0)) (c .given .1 .0));
+          };
+      replay-refusal =
+          record {
+            any = λ κs given. tt;
+            ends = tests.replay_refusal.Met.met;
+            says =
+                λ c.
+                number-answered (replayTests (c .given .0) (c .given .1 .0)) (c .back) refl refl
+                (c .allowed ∙ replay-first (c .given .0) (c .given .1 .0));
+          };
+      who-refusal =
+          record {
+            any = λ κs given. tt;
+            ends = tests.who_refusal.Met.met;
+            says =
+                λ c.
+                number-answered (whoTests (c .given .0) (c .given .1 .0) (c .given .1 .1 .0)) (c .back) refl refl
+                (c .allowed ∙ who-first (c .given .0) (c .given .1 .0) (c .given .1 .1 .0));
           };
       describe-cell =
           record {
@@ -112,7 +197,7 @@ first =
           record {
             any = λ κs given. tt;
             ends = walk.walk.Met.met;
-            says = λ c. walks MessageAnswered c (step-answered (walked c .settings));
+            says = walks;
           };
       view =
           record {

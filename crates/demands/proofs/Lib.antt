@@ -3,9 +3,13 @@ pub mod Asked
 pub mod Described
 pub mod Sent
 pub mod Worked
+pub mod Served
+pub mod Called
 pub mod Back
 pub mod Walks
+pub mod Room
 pub mod Seen
+pub mod Handed
 pub mod First
 pub mod Second
 pub mod Third

@@ -16,7 +16,9 @@ use Rattle.trace.proofs.Walks.{walk-number}
 use Rattle.trace.specs.declared.walk.Walked.{Walked as Back}
 use Rattle.demands.specs.Calls.{Message, Walk, walked}
 use Rattle.demands.specs.Walks.{Chain, Each, heardOf, recordsHeard, linesAfter, Walks}
+use Rattle.demands.specs.Meets.{Meets}
 use Rattle.demands.proofs.Worked.{stepped}
+use Rattle.demands.proofs.Served.{meets}
 
 -- one message more
 chain-more :
@@ -76,15 +78,11 @@ module _ (s : Settings) (trace : List ℕ) (w : T.Walk) where
   heard-to zero = refl
   heard-to (suc n) = rw (map-append, heard-to n)
 
-  each-to :
-      (Says : Message → Type 0) →
-      ((h : Heard) (x : State) → Says (stepped s h x)) →
-      (n : ℕ) →
-      Each Says (messagesTo s trace w n)
-  each-to Says p zero = tt
-  each-to Says p (suc n) =
-      each-more Says (messagesTo s trace w n) _ (each-to Says p n)
-      (p (heardBytes (T.recordAt trace n)) (T.walkTo s trace w n .state))
+  each-to : (n : ℕ) → Each Meets (messagesTo s trace w n)
+  each-to zero = tt
+  each-to (suc n) =
+      each-more Meets (messagesTo s trace w n) _ (each-to n)
+      (meets s (heardBytes (T.recordAt trace n)) (T.walkTo s trace w n .state))
 
   long-to : (n : ℕ) → length (messagesTo s trace w n) ≡ n
   long-to zero = refl
@@ -103,12 +101,9 @@ module _ (s : Settings) (trace : List ℕ) (w : T.Walk) where
   text-to (suc n) = rw (map-append, lines-more, number-to n, text-to n, append-assoc)
 
 -- what the walk's contract says, as a chain
-pub walks :
-    (Says : Message → Type 0) (c : Walk) →
-    ((h : Heard) (x : State) → Says (stepped (walked c .settings) h x)) →
-    Walks Says (walked c)
+pub walks : (c : Walk) → Walks (walked c)
 unfolding T.walkAll
-walks Says c p =
+walks c =
     let w = walked c in
     let start = T.walkStart (w .before .ram) (w .before .reply) (w .before .remembered) (w .from) in
     let n = T.wholeRecords (w .trace) in
@@ -120,7 +115,7 @@ walks Says c p =
       messages = messagesTo (w .settings) (w .trace) start n;
       heard = heard-to (w .settings) (w .trace) start n;
       chain = rw after (chain-to (w .settings) (w .trace) start n);
-      each = each-to (w .settings) (w .trace) start Says p n;
+      each = each-to (w .settings) (w .trace) start n;
       lines = c .allowed .1 .1 .1 ∙ ap (λ (l : List ℕ). sets (w .room) 0 l) text;
       used = ap (λ (k : Back). k .used) back ∙ ap (λ (l : List ℕ). length l) text;
       ended =

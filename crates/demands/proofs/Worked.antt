@@ -32,11 +32,11 @@ use Rattle.message.specs.Heard.{Heard}
 use Rattle.message.specs.Tests.{testsFor, refusalFor}
 use Rattle.message.specs.Answer.{acceptedWith}
 use Rattle.message.specs.Message.{planFor, rememberedWith, carriedOut, answerOf, step}
-use Rattle.message.proofs.Refusals.{number-told, accepted-answer, accepted-state}
+use Rattle.message.proofs.Refusals.{message-done, number-told, accepted-answer, accepted-state}
 use Rattle.message.proofs.Sure.{Sure, accepted-sure}
 use Rattle.message.proofs.Step.{stored-stands, lookup-after, entry-stands, stack-moves}
 use Rattle.demands.specs.Calls.{Message}
-use Rattle.demands.specs.Second.{deed, Untouched, Worked}
+use Rattle.demands.specs.Meets.{deed, Untouched, Worked, MessageWorked}
 use Rattle.demands.proofs.Sent.{words-told}
 
 -- an address that none of a plan's writes names
@@ -141,8 +141,13 @@ pub message-worked :
     (m : Message) →
     m .answer ≡ answerOf (m .settings) (m .heard) (m .before) →
     m .after ≡ step (m .settings) (m .heard) (m .before) →
-    m .answer .number ≡ 0 →
-    Worked m
-message-worked m e f z =
-    let told = number-told (m .settings) (m .heard) (m .before) in
-    rw (e, f) (step-worked (m .settings) (m .heard) (m .before) (sym told ∙ sym (ap (λ (a : Answer). a .number) e) ∙ z))
+    MessageWorked m
+message-worked m e f =
+    let s = m .settings in
+    let h = m .heard in
+    let x = m .before in
+    let told : m .answer .number ≡ refusalFor s h x = ap (λ (a : Answer). a .number) e ∙ number-told s h x in
+    record {
+      accepted = λ none. told ∙ message-done s h x .1 none;
+      worked = λ z. rw (e, f) (step-worked s h x (sym told ∙ z));
+    }

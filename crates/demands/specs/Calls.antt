@@ -10,8 +10,11 @@ use Rattle.layout.proofs.writer
 use Rattle.layout.proofs.round_trip
 use Rattle.message.specs.declared.answer.Answer.{Answer}
 use Rattle.message.specs.Heard.{Heard, heardValue, heardBytes}
+use Rattle.message.specs.Performed.{answerIn, rememberedIn}
+use Rattle.message.proofs.heard
 use Rattle.message.proofs.serve
 use Rattle.trace.proofs.walk
+use Rattle.view.proofs.view
 use Rattle.lent.specs.Setup.{settingsFrom}
 use Rattle.lent_messages.specs.Values.{valueFrom}
 use Rattle.lent_messages.specs.Call.{Lent, lentOf}
@@ -58,13 +61,42 @@ fromValue c =
       after = stateOf (c .left .0) (c .left .1 .0) (c .back .remembered);
     }
 
--- a call of either
+-- the same for who needs the plan: what comes back is an enum, and `answerIn` gives its number and values
+abbrev pub PerformBytes : Type 0
+PerformBytes = Call 3 heard.perform_bytes.Kinds.ps heard.perform_bytes.Kinds.r heard.perform_bytes.Reads.Post
+
+abbrev pub performBytes : PerformBytes → Message
+performBytes c =
+    record {
+      settings = c .given .1 .1 .0;
+      heard = heardBytes (now (c .given .1 .1 .1 .1 .0));
+      before = stateOf (now (c .given .0)) (now (c .given .1 .0)) (c .given .1 .1 .1 .0);
+      answer = answerIn (c .back);
+      after = stateOf (c .left .0) (c .left .1 .0) (rememberedIn (c .given .1 .1 .1 .0) (c .back));
+    }
+
+abbrev pub PerformValue : Type 0
+PerformValue = Call 2 heard.perform_value.Kinds.ps heard.perform_value.Kinds.r heard.perform_value.Reads.Post
+
+abbrev pub performValue : PerformValue → Message
+performValue c =
+    record {
+      settings = c .given .1 .1 .0;
+      heard = heardValue (c .given .1 .1 .1 .1 .0);
+      before = stateOf (now (c .given .0)) (now (c .given .1 .0)) (c .given .1 .1 .1 .0);
+      answer = answerIn (c .back);
+      after = stateOf (c .left .0) (c .left .1 .0) (rememberedIn (c .given .1 .1 .1 .0) (c .back));
+    }
+
+-- a call of any of the four
 abbrev pub MessageCall : Type 0
-MessageCall = FromBytes ⊎ FromValue
+MessageCall = (FromBytes ⊎ FromValue) ⊎ (PerformBytes ⊎ PerformValue)
 
 abbrev pub shows : MessageCall → Message
-shows (inl c) = fromBytes c
-shows (inr c) = fromValue c
+shows (inl (inl c)) = fromBytes c
+shows (inl (inr c)) = fromValue c
+shows (inr (inl c)) = performBytes c
+shows (inr (inr c)) = performValue c
 
 -- ---- the reader, of bytes; the writer, of a value
 
@@ -113,6 +145,10 @@ walked c =
       text = c .left .1 .1 .0;
       used = c .back .used;
     }
+
+-- ---- a record of a trace, for a view
+abbrev pub Take : Type 0
+Take = Call 1 view.take_at.Kinds.ps view.take_at.Kinds.r view.take_at.Reads.Post
 
 -- ---- one message for a caller in C or Rust
 

@@ -1,8 +1,10 @@
 -- Demand 1: "Any RAM, settings and message record may be given. Each entry point ends with an answer or a numbered
 -- refusal in the stated order. A refusal returns its number with everything else zero, save a cell number the area
 -- check names, and changes no word of RAM, reply or remembered state."
--- To believe: the tests of each entry point (`testsFor`, `areaTests`, `recordTests`, `cellTests`, `whoTests`,
--- `entryTests`), `NoneHolds` and `First` of a list of tests.
+-- To believe: what `Answered` and `Meets` name; the tests of each entry point (`testsFor`, `recordTests`, `writerTests`,
+-- `groundTests`, `areaTests`, `cellTests`, `givenTests`, `replayTests`, `whoTests`, `entryTests`); `LowestUnsound`; what
+-- each gives back of a refusal (`notRead`, `zeroBytes`, `cellAnswer`, `areaAnswer`, `noCell`, `noStack`, and `valuesOf`
+-- for the number of an answer to "who"); `settingsFrom`, `valueFrom`, `stateIn` and `lentTablesOf`, what lent words say.
 use Prim.Native.Nat.{ℕ, _+_, _/_, _%_, _≤_, _<_}
 use mathlib.Core.Path.{_≡_}
 use mathlib.Core.Logic.{_↔_}
@@ -14,7 +16,6 @@ use denote.Ref.{now}
 use Rattle.words.specs.declared.settings.Settings.{Settings}
 use Rattle.words.specs.Number.{recordLayout, unsoundCell, addressBeyond}
 use Rattle.words.specs.Refusal.{Test, _when_}
-use Rattle.words.proofs.Refusals.{NoneHolds, First}
 use Rattle.records.specs.declared.value.Record.{Record}
 use Rattle.records.specs.Value.{keepsLayout}
 use Rattle.layout.specs.declared.reader.Reading.{Reading}
@@ -23,10 +24,10 @@ use Rattle.layout.specs.Layout.{notRead}
 use Rattle.layout.specs.Writing.{zeroBytes}
 use Rattle.layout.proofs.reader
 use Rattle.layout.proofs.writer
+use Rattle.layout.proofs.round_trip
 use Rattle.area.specs.declared.area.Checked.{Checked}
-use Rattle.area.specs.Area.{groundTests, areaTests}
+use Rattle.area.specs.Area.{LowestUnsound, groundTests, areaTests}
 use Rattle.area.proofs.area
-use Rattle.area.proofs.Whole.{AreaUnsound}
 use Rattle.label.specs.Label.{cellTests, cellAnswer, areaAnswer}
 use Rattle.label.proofs.one
 use Rattle.label.proofs.whole
@@ -37,6 +38,7 @@ use Rattle.boundary.proofs.descriptions
 use Rattle.message.specs.Heard.{heardBytes}
 use Rattle.message.specs.Tests.{testsFor, recordTests}
 use Rattle.message.specs.Answer.{refusedWith}
+use Rattle.message.proofs.heard
 use Rattle.message.proofs.serve
 use Rattle.trace.proofs.walk
 use Rattle.origin.specs.declared.origin.Who.{Who}
@@ -44,6 +46,7 @@ use Rattle.origin.specs.declared.origin.Who.the-variants.{Refused}
 use Rattle.who.specs.declared.standing.Standing.{Standing}
 use Rattle.who.specs.Tests.{replayTests, whoTests}
 use Rattle.who.specs.Values.{valuesOf}
+use Rattle.who.proofs.tests
 use Rattle.tables.proofs.table
 use Rattle.replay.proofs.question
 use Rattle.replay.proofs.fill
@@ -59,49 +62,22 @@ use Rattle.boundary_values.proofs.from_value
 use Rattle.boundary.proofs.calls
 use Rattle.boundary_origins.proofs.origins
 use Rattle.demands.specs.Entry.{Entry}
-use Rattle.demands.specs.Calls.{Message, fromBytes, fromValue, walked, Exported, exportedBytes, exportedValue}
+use Rattle.demands.specs.Calls.{fromBytes, fromValue, performBytes, performValue, walked, Exported, exportedBytes, exportedValue}
+use Rattle.demands.specs.Answered.{Answered}
+use Rattle.demands.specs.Meets.{MessageAnswered}
 use Rattle.demands.specs.Walks.{Walks}
-
--- the numbers of a list of tests rise, as the table's do
-abbrev pub rising : List Test → Bool
-rising [] = true
-rising (t ∷ []) = true
-rising (t ∷ u ∷ ts) = ltb (t .number) (u .number) && rising (u ∷ ts)
-
--- what one call answers: `back`, with this number; `refusal n` is what it gives back of a refusal n, and `before` and
--- `after` are what it was lent
-pub record Answered
-    (tests : List Test)
-    {Back Lent : Type 0}
-    (number : ℕ)
-    (back : Back)
-    (refusal : ℕ → Back)
-    (before after : Lent)
-    : Type 0 where
-  -- ".. in the stated order."
-  pub order : rising tests ≡ true
-  -- ".. an answer": 0 exactly where no case holds
-  pub done : (number ≡ 0) ↔ NoneHolds tests
-  -- ".. or a numbered refusal": n exactly where case n holds and none before it
-  pub refused : (n : ℕ) → (n ≡ 0 → ⊥) → (number ≡ n) ↔ First tests n
-  -- "A refusal returns its number with everything else zero"
-  pub zero : (number ≡ 0 → ⊥) → back ≡ refusal number
-  -- "and changes no word of RAM, reply or remembered state."
-  pub kept : (number ≡ 0 → ⊥) → after ≡ before
-
--- one message, from bytes or from a value
-abbrev pub MessageAnswered : Message → Type 0
-MessageAnswered m =
-    Answered (testsFor (m .settings) (m .heard) (m .before)) (m .answer .number) (m .answer) refusedWith (m .before)
-    (m .after)
 
 -- the whole-area check changes nothing: RAM is lent to be read
 pub record CheckAnswered (ram : List ℕ) (s : Settings) (back : Checked) : Type 0 where
   pub answered :
       Answered (areaTests ram s) (back .number) back (λ n. record { number = n; cell = back .cell }) ram ram
   -- "save a cell number the area check names": with 9 the lowest unsound cell, and with every other number 0
-  pub named : back .number ≡ unsoundCell → AreaUnsound ram s (back .cell)
+  pub named : back .number ≡ unsoundCell → LowestUnsound ram s (back .cell)
   pub unnamed : (back .number ≡ unsoundCell → ⊥) → back .cell ≡ 0
+
+-- a function that answers with the number alone, and is lent nothing to be changed
+abbrev pub NumberAnswered : List Test → ℕ → Type 0
+NumberAnswered tests number = Answered {Lent = Unit {0}} tests number number (λ n. n) tt tt
 
 -- the reader tests what a message from bytes tests of its record
 abbrev pub ReadAnswered : List ℕ → Reading → Type 0
@@ -161,6 +137,15 @@ pub record Demand : Type 2 where
       Entry 2 serve.message_from_value.Kinds.ps serve.message_from_value.Kinds.r serve.message_from_value.Reads.Pre
       serve.message_from_value.Reads.Post serve.message_from_value.Statement.statement
       (λ c. MessageAnswered (fromValue c))
+  -- and for who needs the plan
+  pub perform-bytes :
+      Entry 3 heard.perform_bytes.Kinds.ps heard.perform_bytes.Kinds.r heard.perform_bytes.Reads.Pre
+      heard.perform_bytes.Reads.Post heard.perform_bytes.Statement.statement
+      (λ c. MessageAnswered (performBytes c))
+  pub perform-value :
+      Entry 2 heard.perform_value.Kinds.ps heard.perform_value.Kinds.r heard.perform_value.Reads.Pre
+      heard.perform_value.Reads.Post heard.perform_value.Statement.statement
+      (λ c. MessageAnswered (performValue c))
   pub check-area :
       Entry 1 area.check_area.Kinds.ps area.check_area.Kinds.r area.check_area.Reads.Pre area.check_area.Reads.Post
       area.check_area.Statement.statement
@@ -173,6 +158,20 @@ pub record Demand : Type 2 where
       Entry 0 writer.write.Kinds.ps writer.write.Kinds.r writer.write.Reads.Pre writer.write.Reads.Post
       writer.write.Statement.statement
       (λ c. WriteAnswered (c .given .0) (c .back))
+  -- the functions that write and read, and read and write
+  pub read-written :
+      Entry 0 round_trip.read_written.Kinds.ps round_trip.read_written.Kinds.r round_trip.read_written.Reads.Pre
+      round_trip.read_written.Reads.Post round_trip.read_written.Statement.statement
+      (λ c.
+      Answered (writerTests (c .given .0)) (c .back .number) (c .back) notRead (c .given .0) (c .given .0))
+  pub write-read :
+      Entry 1 round_trip.write_read.Kinds.ps round_trip.write_read.Kinds.r round_trip.write_read.Reads.Pre
+      round_trip.write_read.Reads.Post round_trip.write_read.Statement.statement
+      (λ c.
+      Answered (recordTests (heardBytes (now (c .given .0)))) (c .back .number) (c .back)
+      (λ n. record { number = n; bytes = zeroBytes })
+      (now (c .given .0))
+      (now (c .given .0)))
   -- the label of one cell, and of the whole area: a refusal lists nothing, and leaves the lent words as they were
   pub label-cell :
       Entry 1 one.label_cell.Kinds.ps one.label_cell.Kinds.r one.label_cell.Reads.Pre one.label_cell.Reads.Post
@@ -182,6 +181,15 @@ pub record Demand : Type 2 where
       (λ n. cellAnswer n [])
       (now (c .given .0))
       (now (c .given .0)))
+  -- the same by the numbers alone
+  pub find-sharers :
+      Entry 2 one.find_sharers.Kinds.ps one.find_sharers.Kinds.r one.find_sharers.Reads.Pre one.find_sharers.Reads.Post
+      one.find_sharers.Statement.statement
+      (λ c.
+      Answered (cellTests (now (c .given .0)) (c .given .1 .0) (c .given .1 .1 .0)) (c .back .number) (c .back)
+      (λ n. record { number = n; count = 0 })
+      (now (c .given .1 .1 .1 .0))
+      (c .left .1 .1 .1 .0))
   pub label-area :
       Entry 2 whole.label_area.Kinds.ps whole.label_area.Kinds.r whole.label_area.Reads.Pre whole.label_area.Reads.Post
       whole.label_area.Statement.statement
@@ -189,6 +197,19 @@ pub record Demand : Type 2 where
       Answered (groundTests (now (c .given .0)) (c .given .1 .0)) (c .back .number) (c .back) (λ n. areaAnswer n [] 0)
       (now (c .given .1 .1 .0))
       (c .left .1 .1 .0))
+  -- the tests alone, for those who do the rest: of RAM and settings, of a replay, and of a question about an address
+  pub ground-refusal :
+      Entry 1 area.ground_refusal.Kinds.ps area.ground_refusal.Kinds.r area.ground_refusal.Reads.Pre
+      area.ground_refusal.Reads.Post area.ground_refusal.Statement.statement
+      (λ c. NumberAnswered (groundTests (now (c .given .0)) (c .given .1 .0)) (c .back))
+  pub replay-refusal :
+      Entry 0 tests.replay_refusal.Kinds.ps tests.replay_refusal.Kinds.r tests.replay_refusal.Reads.Pre
+      tests.replay_refusal.Reads.Post tests.replay_refusal.Statement.statement
+      (λ c. NumberAnswered (replayTests (c .given .0) (c .given .1 .0)) (c .back))
+  pub who-refusal :
+      Entry 0 tests.who_refusal.Kinds.ps tests.who_refusal.Kinds.r tests.who_refusal.Reads.Pre
+      tests.who_refusal.Reads.Post tests.who_refusal.Statement.statement
+      (λ c. NumberAnswered (whoTests (c .given .0) (c .given .1 .0) (c .given .1 .1 .0)) (c .back))
   -- what a cell and the stack are like, also for callers in C and Rust
   pub describe-cell :
       Entry 1 described-cell.describe_cell.Kinds.ps described-cell.describe_cell.Kinds.r
@@ -226,11 +247,11 @@ pub record Demand : Type 2 where
       (λ n. over (now (c .given .1 .1 .0)) (replicate 4 0))
       (now (c .given .0))
       (now (c .given .0)))
-  -- each whole record of a trace is such a message
+  -- each whole record of a trace is such a message: one list of messages, of which demands 1 and 2 hold
   pub walk :
       Entry 4 walk.walk.Kinds.ps walk.walk.Kinds.r walk.walk.Reads.Pre walk.walk.Reads.Post
       walk.walk.Statement.statement
-      (λ c. Walks MessageAnswered (walked c))
+      (λ c. Walks (walked c))
   -- and a view's record is read as the reader reads it
   pub view :
       Entry 1 view.take_at.Kinds.ps view.take_at.Kinds.r view.take_at.Reads.Pre view.take_at.Reads.Post

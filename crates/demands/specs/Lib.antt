@@ -1,6 +1,9 @@
 pub mod Entry
 pub mod Calls
+pub mod Answered
+pub mod Meets
 pub mod Walks
+pub mod Exported
 pub mod First
 pub mod Second
 pub mod Third

@@ -1,102 +1,45 @@
 -- Demand 2: "After each accepted message the reply, the interrupt word, the remembered state and every word of RAM
 -- are what document 01 works out from the makers' guide and MIL-STD-1553B. Message records are read and written by
 -- one fixed layout, and each undoes the other."
--- To believe: `planOf`, what document 01 works out of a message (its cell and window `targetOf`, its deed `deedOf`,
--- its stack entry `entryOf`); `replyWords` and `descriptorOf`, the words that it sends and stacks; the layout,
--- `valueIn` and `bytesOf`.
-use Prim.Native.Nat.{ℕ, _+_, _<_}
+-- To believe: what `Meets` names; the layout, `valueIn` and `bytesOf`, with `Typed` and `Bytes`, what the types of a value
+-- and of bytes say; `readBack` and `writeBack`.
 use mathlib.Core.Path.{_≡_}
-use mathlib.Core.List.{_++_, map}
-use lib.ListN.{length, getD, drop}
+use mathlib.Core.Bool.{true}
+use mathlib.Core.List.{map}
+use lib.ListN.{take, drop}
 use denote.Ref.{now}
-use Rattle.words.specs.Bits.{bitOf}
-use Rattle.layout.specs.Layout.{valueIn}
+use Rattle.words.specs.declared.remembered.Remembered.{Remembered}
+use Rattle.records.specs.Value.{Typed}
+use Rattle.layout.specs.Layout.{Bytes, valueIn}
 use Rattle.layout.specs.Writing.{bytesOf}
 use Rattle.layout.specs.RoundTrip.{readBack, writeBack}
-use Rattle.layout.proofs.Numbers.{Bytes}
-use Rattle.layout.proofs.Inverse.{Typed}
-use Rattle.memory.specs.Map.{lookupPlace, stackPointerPlace}
-use Rattle.windows.specs.Window.{placeOf}
-use Rattle.cells.specs.Stack.{stackPointer, stackWindow}
-use Rattle.deed.specs.declared.deed.Deed.{Deed}
 use Rattle.decide.specs.declared.plan.Plan.{Plan}
-use Rattle.decide.specs.Plan.{interruptWord}
-use Rattle.carry.specs.Writes.{descriptorOf}
-use Rattle.carry.specs.Reply.{replyWords}
-use Rattle.message.specs.Message.{planFor}
-use Rattle.message.specs.Answer.{acceptedWith}
+use Rattle.message.specs.declared.perform.Performed.the-variants.{Done}
 use Rattle.message.specs.Edges.{runCase, cases, expected}
 use Rattle.lent.specs.Over.{over}
 use Rattle.lent_messages.specs.Values.{valueFrom, valueWords}
-use Rattle.lent_messages.specs.Call.{stateIn, handedBack}
-use Rattle.demands.specs.Calls.{Message, FromBytes, fromBytes, FromValue, fromValue, Read, Write, ReadWritten, WriteRead, Walk, walked, Exported, ExportedBytes, exportedBytes, ExportedValue, exportedValue, ExportedRead, ExportedWrite}
+use Rattle.demands.specs.Calls.{Message, FromBytes, fromBytes, FromValue, fromValue, PerformBytes, performBytes, PerformValue, performValue, Read, Write, ReadWritten, WriteRead, Take, Walk, walked, Exported, ExportedBytes, exportedBytes, ExportedValue, exportedValue, ExportedRead, ExportedWrite}
+use Rattle.demands.specs.Meets.{planned, MessageWorked}
 use Rattle.demands.specs.Walks.{Walks}
+use Rattle.demands.specs.Exported.{Shown}
 
--- what document 01 works out of a message
-abbrev pub planned : Message → Plan
-planned m = planFor (m .settings) (m .heard .value) (m .before)
-
-abbrev pub deed : Message → Deed
-deed m = planned m .deed
-
--- address a is none that the message writes to
-pub record Untouched (m : Message) (a : ℕ) : Type 0 where
-  pub stored : (k : ℕ) → k < deed m .stored → a ≡ placeOf (deed m .window) k → ⊥
-  pub pointer : a ≡ lookupPlace (m .settings .area) (deed m .cell) → ⊥
-  pub descriptor : (k : ℕ) → k < 4 → a ≡ stackPointer (m .before .ram) (m .settings) + k → ⊥
-  pub stack : a ≡ stackPointerPlace (m .settings .area) → ⊥
-
--- an accepted message
-pub record Worked (m : Message) : Type 0 where
-  -- "the reply": it "goes to the front of a lent buffer; its other words keep their contents"
-  pub reply :
-      m .after .reply
-      ≡ replyWords (m .before .ram) (deed m) ++ drop (length (replyWords (m .before .ram) (deed m))) (m .before .reply)
-  -- the status where it was sent, and as many data words as the answer tells
-  pub sent : length (replyWords (m .before .ram) (deed m)) ≡ bitOf (m .answer .answered) + m .answer .sent
-  -- "the interrupt word", and all else that is answered
-  pub interrupt : m .answer .interrupt ≡ interruptWord (deed m .signals) (planned m .entry .wrapped)
-  pub answer : m .answer ≡ acceptedWith (planned m)
-  -- "the remembered state": the command and the status word
-  pub remembered : m .after .remembered ≡ record { command = m .heard .value .command; status = deed m .status }
-  -- "every word of RAM": the words stored, from the lookup pointer on, wrapping inside the window
-  pub stored :
-      (k : ℕ) →
-      k < deed m .stored →
-      getD (m .after .ram) (placeOf (deed m .window) k) 0 ≡ getD (m .heard .value .words) k 0
-  -- the lookup pointer
-  pub pointer : getD (m .after .ram) (lookupPlace (m .settings .area) (deed m .cell)) 0 ≡ deed m .after
-  -- "Four stack words at the stack pointer"
-  pub descriptor :
-      (k : ℕ) →
-      k < 4 →
-      getD (m .after .ram) (stackPointer (m .before .ram) (m .settings) + k) 0
-      ≡ getD (descriptorOf (deed m) (m .heard .value)) k 0
-  -- "The stack pointer moves on by 4, wrapping."
-  pub stack : stackPointer (m .after .ram) (m .settings) ≡ placeOf (stackWindow (m .before .ram) (m .settings)) 4
-  -- and no other word changes
-  pub long : length (m .after .ram) ≡ length (m .before .ram)
-  pub others : (a : ℕ) → Untouched m a → getD (m .after .ram) a 0 ≡ getD (m .before .ram) a 0
-
--- "After each accepted message"
-abbrev pub MessageWorked : Message → Type 0
-MessageWorked m = m .answer .number ≡ 0 → Worked m
-
--- for a caller in C or Rust: what is lent afterwards is what such a message leaves, put back as plain words
+-- for a caller in C or Rust: what is lent afterwards is what one message leaves, of which demands 1 and 2 hold
 pub record ExportedWorked (e : Exported) : Type 0 where
   pub message : Message
-  pub settings : message .settings ≡ e .settings
-  pub heard : message .heard ≡ e .heard
-  pub before : message .before ≡ stateIn (e .before)
-  pub worked : MessageWorked message
-  pub number : e .number ≡ message .answer .number
-  pub after : e .after ≡ handedBack (e .before) (message .after) (message .answer)
+  pub shown : Shown e message
 
 pub record Demand : Type 0 where
   pub message-from-bytes : (c : FromBytes) → MessageWorked (fromBytes c)
   pub message-from-value : (c : FromValue) → MessageWorked (fromValue c)
+  -- and for who needs the plan: it is what document 01 works out
+  pub perform-bytes : (c : PerformBytes) → MessageWorked (performBytes c)
+  pub perform-value : (c : PerformValue) → MessageWorked (performValue c)
+  pub plan-bytes :
+      (c : PerformBytes) (p : Plan) (m : Remembered) → c .back ≡ Done p m → p ≡ planned (performBytes c)
+  pub plan-value :
+      (c : PerformValue) (p : Plan) (m : Remembered) → c .back ≡ Done p m → p ≡ planned (performValue c)
   -- each whole record of a trace is such a message, after those before it
-  pub walk : (c : Walk) → Walks MessageWorked (walked c)
+  pub walk : (c : Walk) → Walks (walked c)
   pub exported-message : (c : ExportedBytes) → ExportedWorked (exportedBytes c)
   pub exported-message-value : (c : ExportedValue) → ExportedWorked (exportedValue c)
   -- what document 01 works out, on the cases that it works out itself: "P1 to P12 form a single table"
@@ -104,6 +47,12 @@ pub record Demand : Type 0 where
   -- "Message records are read and written by one fixed layout"
   pub read : (r : Read) → r .back .number ≡ 0 → r .back .value ≡ valueIn (now (r .given .0))
   pub write : (w : Write) → w .back .number ≡ 0 → w .back .bytes ≡ bytesOf (w .given .0)
+  -- also where a view takes the record at its place of a trace
+  pub view :
+      (t : Take) →
+      t .back .found ≡ true →
+      t .back .reading .number ≡ 0 →
+      t .back .reading .value ≡ valueIn (take 80 (drop (t .given .1 .0) (now (t .given .0))))
   -- "and each undoes the other.": what was written for a value, any that the type can hold, reads as that value
   pub read-written :
       (w : Write) (r : Read) →

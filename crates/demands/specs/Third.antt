@@ -5,8 +5,9 @@
 -- stack-rollover bit. The stack holds the last descriptors that fit, in the new order; the remembered command and
 -- status are the new last message's."
 -- To believe: `asked`, the first three sentences as a yes or no; `exchangeAll`, exchanges one after the other;
--- `stackWord`, what stands in a stack block after a list of descriptors.
-use Prim.Native.Nat.{ℕ, _+_, _<_}
+-- `stackWord`, what stands in a stack block after a list of descriptors; `withoutStackRollover`, `rememberedLast` and
+-- `repliedAll`.
+use Prim.Native.Nat.{ℕ, _+_, _≤_, _<_}
 use mathlib.Core.Path.{_≡_}
 use mathlib.Core.Bool.{true, false}
 use mathlib.Core.List.{List, map}
@@ -16,13 +17,16 @@ use Rattle.words.specs.Bits.{bitOf}
 use Rattle.memory.specs.State.{State}
 use Rattle.cells.specs.Stack.{stackPointer, stackWindow}
 use Rattle.message.specs.Run.{Effect}
+use Rattle.lent_messages.specs.Call.{Lent, stateIn}
 use Rattle.exchange.specs.Order.{exchangeAll}
 use Rattle.exchange.specs.Descriptors.{stackWord}
 use Rattle.exchange.specs.Kept.{withoutStackRollover}
 use Rattle.exchange.specs.After.{rememberedLast, repliedAll}
 use Rattle.exchange.specs.Exchanged.{asked, isInside}
-use Rattle.demands.specs.Calls.{Message, MessageCall, shows}
-use Rattle.demands.specs.Walks.{Chain, Each, heardOf}
+use Rattle.demands.specs.Calls.{Message, MessageCall, shows, Walked, Exported}
+use Rattle.demands.specs.Meets.{Meets}
+use Rattle.demands.specs.Walks.{Chain, Handed, Each, heardOf, Walks}
+use Rattle.demands.specs.Exported.{AllShown, heardBy, HandedWords}
 
 -- what a caller sees of a message: its answer, the words at the front of the reply, and the four words where the
 -- stack pointer was
@@ -56,15 +60,58 @@ pub record Exchanged (s : Settings) (x : State) (old new : List Message) (y z : 
       ≡ stackWord (x .ram) (stackWindow (x .ram) s) (map (λ e. e .descriptor) (allSeen new)) j
   -- "the remembered command and status are the new last message's."
   pub remembered : z .remembered ≡ rememberedLast (heardOf new) (allSeen new)
-  -- what the lent reply buffer holds at the end
-  pub reply : z .reply ≡ repliedAll (allSeen new) (x .reply)
 
--- any calls of the message's entry points, from bytes or from values, one after the other
-abbrev pub Demand : Type 0
-Demand =
-    (s : Settings) (x y z : State) (old new : List MessageCall) (places : List ℕ) →
-    asked s x (heardOf (map shows old)) places ≡ true →
-    heardOf (map shows new) ≡ exchangeAll places (heardOf (map shows old)) →
-    Chain s x (map shows old) y →
-    Chain s x (map shows new) z →
-    Exchanged s x (map shows old) (map shows new) y z places
+-- "with 33 reply words": each message is lent so many
+abbrev pub Roomy : Message → Type 0
+Roomy m = 33 ≤ length (m .before .reply)
+
+-- two lists of messages from x, the second in the new order: what demand 3 asks of them, one handing RAM and the
+-- remembered state to the next
+pub record Asked (s : Settings) (x : State) (old new : List Message) (y z : State) (places : List ℕ) : Type 0 where
+  pub asked : asked s x (heardOf old) places ≡ true
+  pub reordered : heardOf new ≡ exchangeAll places (heardOf old)
+  pub room : Each Roomy old × Each Roomy new
+  pub from-old : Handed s x old y
+  pub from-new : Handed s x new z
+
+pub record Demand : Type 0 where
+  -- any messages of which demands 1 and 2 hold, one after the other, whichever functions were called for them
+  pub messages :
+      (s : Settings) (x y z : State) (old new : List Message) (places : List ℕ) →
+      Each Meets old →
+      Each Meets new →
+      Asked s x old new y z places →
+      Exchanged s x old new y z places
+  -- and where one buffer is lent for all replies, what it holds at the end
+  pub reply :
+      (s : Settings) (x y z : State) (old new : List Message) (places : List ℕ) →
+      Each Meets old →
+      Each Meets new →
+      Asked s x old new y z places →
+      Chain s x new z →
+      z .reply ≡ repliedAll (allSeen new) (x .reply)
+  -- so any calls of the message's functions
+  pub calls :
+      (s : Settings) (x y z : State) (old new : List MessageCall) (places : List ℕ) →
+      Asked s x (map shows old) (map shows new) y z places →
+      Exchanged s x (map shows old) (map shows new) y z places
+  -- walks of two traces from the same state, the second with the records of the first in the new order
+  pub walks :
+      (c d : Walked) (u : Walks c) (v : Walks d) (places : List ℕ) →
+      d .settings ≡ c .settings →
+      d .before ≡ c .before →
+      asked (c .settings) (c .before) (heardOf (u .messages)) places ≡ true →
+      heardOf (v .messages) ≡ exchangeAll places (heardOf (u .messages)) →
+      Exchanged (c .settings) (c .before) (u .messages) (v .messages) (c .after) (d .after) places
+  -- and calls from C or Rust, one after the other, with room for the two words that are remembered
+  pub exported :
+      (s : Settings) (l k j : Lent) (es fs : List Exported) (old new : List Message) (places : List ℕ) →
+      2 ≤ length (l .remembered) →
+      AllShown es old →
+      AllShown fs new →
+      asked s (stateIn l) (heardBy es) places ≡ true →
+      heardBy fs ≡ exchangeAll places (heardBy es) →
+      Each Roomy old × Each Roomy new →
+      HandedWords s l es k →
+      HandedWords s l fs j →
+      Exchanged s (stateIn l) old new (stateIn k) (stateIn j) places

@@ -58,6 +58,11 @@ taken-apart s x vs places e =
       allowed = and-right (start && take) allowed e;
     }
 
+-- there is room for a reply
+pub asked-room :
+    (s : Settings) (x : State) (vs : List Heard) (places : List ℕ) → asked s x vs places ≡ true → 33 ≤ length (x .reply)
+asked-room s x vs places e = taken-apart s x vs places e .room
+
 pub exchange : Demand
 unfolding keptAfter stackAfter rememberedAfter repliedAfter
 exchange s x vs places e =

@@ -11,7 +11,8 @@ use lib.Dec.{eqb}
 use borrow.Author.Tests.{eqb-true}
 use Rattle.words.proofs.Basics.{and-left, and-right}
 use Rattle.layout.specs.Fields.{Field, numberAt, putNumber, putFields}
-use Rattle.layout.proofs.Numbers.{Bytes, length-number, number-before, number-anew, number-same, number-put, number-again, bytes-number}
+use Rattle.layout.specs.Layout.{Bytes}
+use Rattle.layout.proofs.Numbers.{length-number, number-before, number-anew, number-same, number-put, number-again, bytes-number}
 
 -- the fields stand end to end, from place p to place q
 unfoldable pub endToEnd : ℕ → List Field → ℕ → Bool

@@ -12,25 +12,15 @@ use Rattle.records.specs.declared.value.Record.{Record}
 use Rattle.layout.specs.declared.reader.Reading.{Reading}
 use Rattle.layout.specs.declared.writer.Written.{Written}
 use Rattle.words.specs.Fill.{fillFrom, fill}
-use Rattle.records.specs.Value.{zeroWords, keepsLayout}
+use Rattle.records.specs.Value.{zeroWords, keepsLayout, Typed}
 use Rattle.words.proofs.Fill.{length-fill, fill-at}
-use Rattle.layout.specs.Layout.{wordsIn, valueIn, gapZero, breaksLayout, readRecord, notRead}
+use Rattle.layout.specs.Layout.{Bytes, wordsIn, valueIn, gapZero, breaksLayout, readRecord, notRead}
 use Rattle.layout.specs.Writing.{zeroBytes, headerFields, wordFields, fieldsOf, bytesOf, writeRecord}
 use Rattle.words.proofs.Basics.{yes-or-no, lt-or-ge, eq-or-ne}
-use Rattle.layout.proofs.Numbers.{Bytes, zeros-number, number-zeros}
+use Rattle.layout.proofs.Numbers.{zeros-number, number-zeros}
 use Rattle.layout.proofs.Fields.{endToEnd, numbersIn, valuesIn, heldIn, length-fields, bytes-fields, fields-put, fields-anew, fields-again}
 use Rattle.layout.proofs.Places.{word-at, layout-kept}
 use Rattle.layout.proofs.Cases.{read-length, read-layout, read-good, write-layout, write-good}
-
--- what the type `Record` says of a value
-pub record Typed (v : Record) : Type 0 where
-  pub command : v .command < 65536
-  pub second : v .«transmit_command» < 65536
-  pub tag : v .tag < 65536
-  pub flags : v .flags < 256
-  pub count : v .count < 256
-  pub many : length (v .words) ≡ 32
-  pub words : (k : ℕ) → getD (v .words) k 0 < 65536
 
 -- the fields of a record stand end to end in its 80 bytes
 laid : (v : Record) → endToEnd 0 (fieldsOf v) 80 ≡ true

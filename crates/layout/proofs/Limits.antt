@@ -13,8 +13,7 @@ use lib.Dec.{ltb, leb, eqb}
 use borrow.Author.Tests.{lt-ltb, le-ltb, le-leb, lt-leb, eq-eqb, ne-eqb}
 use Rattle.words.proofs.Basics.{lt-or-ge}
 use Rattle.records.specs.Value.{lastsZero}
-use Rattle.layout.specs.Layout.{wordsIn}
-use Rattle.layout.proofs.Numbers.{Bytes}
+use Rattle.layout.specs.Layout.{Bytes, wordsIn}
 use Rattle.layout.proofs.Places.{word-at}
 
 -- byte k of the words keeps its limit, of those that stand in a table from `from` on

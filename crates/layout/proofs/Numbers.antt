@@ -13,11 +13,7 @@ use lib.Pow.{mod-pow-add}
 use borrow.Author.Tests.{eqb-true, eq-eqb}
 use Rattle.words.proofs.Basics.{lt-or-ge, eq-or-ne, and-left, and-right}
 use Rattle.layout.specs.Fields.{numberAt, putNumber}
-use Rattle.layout.specs.Layout.{areZero}
-
--- what the type `[u8]` says of a slice's bytes
-abbrev pub Bytes : List ℕ → Type 0
-Bytes s = (k : ℕ) → getD s k 0 < 256
+use Rattle.layout.specs.Layout.{Bytes, areZero}
 
 -- one byte more, also the first
 number-more : (s : List ℕ) (i n : ℕ) → numberAt s i (suc n) ≡ numberAt s i n * 256 + getD s (i + n) 0

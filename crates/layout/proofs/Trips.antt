@@ -8,14 +8,13 @@ use borrow.Author.Tests.{eqb-true, ne-eqb}
 use Rattle.records.specs.declared.value.Record.{Record}
 use Rattle.layout.specs.declared.reader.Reading.{Reading}
 use Rattle.layout.specs.declared.writer.Written.{Written}
-use Rattle.records.specs.Value.{zeroValue, keepsLayout}
-use Rattle.layout.specs.Layout.{readerRefusal, readRecord, notRead}
+use Rattle.records.specs.Value.{zeroValue, keepsLayout, Typed}
+use Rattle.layout.specs.Layout.{Bytes, readerRefusal, readRecord, notRead}
 use Rattle.layout.specs.Writing.{zeroBytes, writeRecord}
 use Rattle.layout.specs.RoundTrip.{readBack, writeBack}
 use Rattle.words.proofs.Basics.{yes-or-no}
 use Rattle.layout.proofs.Cases.{write-layout, write-good}
-use Rattle.layout.proofs.Numbers.{Bytes}
-use Rattle.layout.proofs.Inverse.{Typed, read-after-write, write-after-read, reader-takes, writer-takes}
+use Rattle.layout.proofs.Inverse.{read-after-write, write-after-read, reader-takes, writer-takes}
 
 -- the number that the reader answers is its refusal
 read-number : (s : List ℕ) → readRecord s .number ≡ readerRefusal s

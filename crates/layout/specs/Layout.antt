@@ -1,5 +1,5 @@
 -- The 80 bytes of a message record, and what reading them gives.
-use Prim.Native.Nat.{ℕ, zero, suc, _+_, _*_}
+use Prim.Native.Nat.{ℕ, zero, suc, _+_, _*_, _<_}
 use mathlib.Core.Bool.{Bool, true, not, cond, _&&_}
 use mathlib.Core.List.{List, [], _∷_}
 use lib.ListN.{length, getD}
@@ -11,6 +11,10 @@ use Rattle.records.specs.Value.{zeroWords, zeroValue, keepsLayout}
 use Rattle.words.specs.Number.{recordLength, recordLayout}
 use Rattle.words.specs.Refusal.{_when_, firstOf}
 use Rattle.layout.specs.Fields.{numberAt}
+
+-- what the type `[u8]` says of a slice's bytes
+abbrev pub Bytes : List ℕ → Type 0
+Bytes s = (k : ℕ) → getD s k 0 < 256
 
 -- the word whose high byte is byte i
 abbrev pub wordAt : List ℕ → ℕ → ℕ

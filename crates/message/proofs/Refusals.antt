@@ -6,7 +6,8 @@ use mathlib.Core.Logic.{_↔_, ⊎-elim}
 use borrow.Author.Tests.{eq-eqb, ne-eqb}
 use Rattle.words.specs.declared.settings.Settings.{Settings}
 use Rattle.words.proofs.Basics.{eq-or-ne}
-use Rattle.words.proofs.Refusals.{NoneHolds, First, first-zero, first-number}
+use Rattle.words.specs.Refusal.{NoneHolds, First}
+use Rattle.words.proofs.Refusals.{first-zero, first-number}
 use Rattle.memory.specs.State.{State}
 use Rattle.message.specs.Heard.{Heard}
 use Rattle.message.specs.Tests.{testsFor, refusalFor}

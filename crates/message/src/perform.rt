@@ -35,7 +35,7 @@ pub enum Performed {
 
 // Stack, cell and window are worked out once, by the tests, and handed on to the plan. The test of RAM's length also
 // tells the compiler how long it is, which then leaves out the bounds tests of fixed places.
-pub fn perform(
+pub(crate) fn perform(
     ram: &mut [u16],
     reply: &mut [u16],
     s: Settings,

@@ -1,8 +1,9 @@
 -- The record value and the rules that it keeps.
-use Prim.Native.Nat.{ℕ, zero, suc, _/_, _%_}
+use Prim.Native.Nat.{ℕ, zero, suc, _/_, _%_, _<_}
+use mathlib.Core.Path.{_≡_}
 use mathlib.Core.Bool.{Bool, true, not, _&&_, _||_}
 use mathlib.Core.List.{List}
-use lib.ListN.{getD, replicate}
+use lib.ListN.{length, getD, replicate}
 use lib.Dec.{ltb, leb, eqb}
 use Rattle.records.specs.declared.value.Record.{Record}
 use Rattle.records.specs.Transfer.{breaksTransfer}
@@ -36,3 +37,13 @@ keepsHeader v = (leb (v .flags) 127 && leb (v .count) 33) && not (breaksTransfer
 -- the header's rules; "Words after the first min(count, 32) are zero."
 unfoldable pub keepsLayout : Record → Bool
 keepsLayout v = keepsHeader v && lastsZero (v .words) (v .count) 32
+
+-- what the type `Record` says of a value: numbers of 16 and of 8 bits, thirty-two words
+pub record Typed (v : Record) : Type 0 where
+  pub command : v .command < 65536
+  pub second : v .«transmit_command» < 65536
+  pub tag : v .tag < 65536
+  pub flags : v .flags < 256
+  pub count : v .count < 256
+  pub many : length (v .words) ≡ 32
+  pub words : (k : ℕ) → getD (v .words) k 0 < 65536

@@ -9,7 +9,7 @@ use mathlib.Core.List.{List, [], _∷_, _++_}
 use lib.Dec.{ltb, leb, eqb}
 use borrow.Author.Tests.{ltb-true, leb-true, eq-eqb, ne-eqb}
 use Rattle.words.proofs.Basics.{yes-or-no, and-left, and-right}
-use Rattle.words.specs.Refusal.{Test, firstOf}
+use Rattle.words.specs.Refusal.{Test, firstOf, NoneHolds, First}
 
 -- ---- any list of tests
 
@@ -28,17 +28,6 @@ not-zero t ts m e = let l = ltb-true 0 (t .number) (and-left (ltb 0 (t .number))
 
 rest-numbered : (t : Test) (ts : List Test) → numbered (t ∷ ts) ≡ true → numbered ts ≡ true
 rest-numbered t ts m = and-right (ltb 0 (t .number)) (numbered ts) m
-
-abbrev pub NoneHolds : List Test → Type 0
-NoneHolds [] = Unit {0}
-NoneHolds (t ∷ ts) = (t .holds ≡ false) × NoneHolds ts
-
--- a test numbered n holds, and none before it
-pub record First (ts : List Test) (n : ℕ) : Type 0 where
-  pub before : List Test
-  pub after : List Test
-  pub splits : ts ≡ before ++ (record { number = n; holds = true } ∷ after)
-  pub none : NoneHolds before
 
 none-holds : (ts : List Test) → numbered ts ≡ true → firstOf ts ≡ 0 → NoneHolds ts
 unfolding firstOf

@@ -4,7 +4,7 @@ use native.Mathlib.Omega.{arith}
 use lib.ListN.{getD}
 use mir.Syntax.{w16}
 use mir.Val.{Fits}
-use Rattle.layout.proofs.Inverse.{Typed}
+use Rattle.records.specs.Value.{Typed}
 use Rattle.layout.proofs.Trips.{read-written-taken, read-written-refused}
 use Rattle.layout.proofs.round_trip.read_written.Statement.{statement}
 use Rattle.layout.proofs.round_trip.read_written.Tie as tie

@@ -1,6 +1,6 @@
 -- `write_read` meets its contract: what the type `[u8]` says of `s` is all that the round trip needs.
 use borrow.Author.Needs.{needs}
-use Rattle.layout.proofs.Numbers.{Bytes}
+use Rattle.layout.specs.Layout.{Bytes}
 use Rattle.layout.proofs.Trips.{write-read-taken, write-read-refused}
 use Rattle.layout.proofs.round_trip.write_read.Statement.{statement}
 use Rattle.layout.proofs.round_trip.write_read.Tie as tie
