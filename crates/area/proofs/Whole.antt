@@ -3,7 +3,7 @@
 use Prim.Native.Nat.{ℕ, _≤_, _<_}
 use native.Mathlib.Nat.{eq-zero-or-pos}
 use native.Mathlib.Omega.{arith}
-use mathlib.Core.Path.{_≡_, refl, sym, _∙_}
+use mathlib.Core.Path.{_≡_, sym, _∙_}
 use mathlib.Core.Logic.{⊎-elim}
 use mathlib.Core.Bool.{Bool, true, false, not}
 use mathlib.Core.List.{List}
@@ -30,6 +30,12 @@ SoundAt ram s n = CellSound (length ram) (stackWindow ram s) (cellNumbered ram s
 pub record AreaFine (ram : List ℕ) (s : Settings) : Type 0 where
   pub accepted : AreaAccepted ram s
   pub cells : (n : ℕ) → isRead s n ≡ true → SoundAt ram s n
+
+pub record AreaUnsound (ram : List ℕ) (s : Settings) (cell : ℕ) : Type 0 where
+  pub accepted : AreaAccepted ram s
+  pub listed : isRead s cell ≡ true
+  pub unsound : SoundAt ram s cell → ⊥
+  pub first : (n : ℕ) → isRead s n ≡ true → n < cell → SoundAt ram s n
 
 module _ (ram : List ℕ) (s : Settings) where
   abbrev bad : ℕ → Bool
@@ -59,10 +65,9 @@ module _ (ram : List ℕ) (s : Settings) where
       not-both sound (cell-facts-sound (length ram) (stackWindow ram s) c f)
       (not-true sound (and-right (isRead s n) (not sound) b))
 
-  -- number 0 is no cell that is read
-  zero-good : bad 0 ≡ false
-  unfolding isUnsound isRead
-  zero-good = refl
+  unsound-bad : (n : ℕ) → isRead s n ≡ true → (SoundAt ram s n → ⊥) → bad n ≡ true
+  unsound-bad n r h =
+      ⊎-elim (λ b. b) (λ b. absurd (h (good-sound n r b))) (yes-or-no (bad n))
 
   pub number-positive : (n : ℕ) → isRead s n ≡ true → 0 < n
   number-positive n r = omega (arith, read-listed s n r .low)
@@ -85,8 +90,8 @@ module _ (ram : List ℕ) (s : Settings) where
         cells = λ n r. good-sound n r (found .none z n (number-positive n r) (read-listed s n r .below));
       }
 
-  -- with 9 the named cell is the lowest that is read and unsound
-  pub area-unsound : checkArea ram s .number ≡ unsoundCell → LowestUnsound ram s (checkArea ram s .cell)
+  -- with 9 the named cell is listed and unsound, and every listed cell below it is sound
+  pub area-unsound : checkArea ram s .number ≡ unsoundCell → AreaUnsound ram s (checkArea ram s .cell)
   unfolding checkArea
   area-unsound e =
       let g : groundRefusal ram s ≡ 0 =
@@ -98,9 +103,25 @@ module _ (ram : List ℕ) (s : Settings) where
       let p : 0 < lowestUnsound ram s = omega arith in
       rw (eq-eqb (areaRefusal ram s) unsoundCell e)
       (record {
-        unsound = found .found p;
-        first = λ n l. ⊎-elim (λ (e : n ≡ 0). rw e zero-good) (λ h. found .first n h l) (eq-zero-or-pos n);
+        accepted = ground-accepted ram s g;
+        listed = bad-listed _ (found .found p);
+        unsound = bad-unsound _ (found .found p);
+        first = λ n r l. good-sound n r (found .first n (number-positive n r) l);
       })
+
+  -- so it is the lowest of those that are read and unsound
+  pub area-lowest : checkArea ram s .number ≡ unsoundCell → LowestUnsound ram s (checkArea ram s .cell)
+  area-lowest e =
+      let f = area-unsound e in
+      record {
+        unsound = unsound-bad _ (f .listed) (f .unsound);
+        first =
+            λ n l.
+            ⊎-elim
+            (λ (b : bad n ≡ true). absurd (bad-unsound n b (f .first n (bad-listed n b) l)))
+            (λ b. b)
+            (yes-or-no (bad n));
+      }
 
   -- and the cell is 0 with every other number
   pub area-no-cell : (checkArea ram s .number ≡ unsoundCell → ⊥) → checkArea ram s .cell ≡ 0
@@ -119,31 +140,29 @@ module _ (ram : List ℕ) (s : Settings) where
       (eq-zero-or-pos (lowestUnsound ram s)) in
       rw (← before-none ram s (accepted-ground ram s (f .accepted)), eq-eqb _ _ z, z)
 
-  pub unsound-area :
-      (cell : ℕ) → AreaAccepted ram s → LowestUnsound ram s cell →
-      checkArea ram s ≡ record { number = unsoundCell; cell = cell }
-  unsound-area cell a f =
-      let listed = bad-listed cell (f .unsound) in
-      let p = number-positive cell listed in
+  pub unsound-area : (cell : ℕ) → AreaUnsound ram s cell → checkArea ram s ≡ record { number = unsoundCell; cell = cell }
+  unsound-area cell f =
+      let p = number-positive cell (f .listed) in
+      let b : bad cell ≡ true = unsound-bad cell (f .listed) (f .unsound) in
       let l : 0 < lowestUnsound ram s =
       ⊎-elim
       (λ (z : lowestUnsound ram s ≡ 0).
-      absurd (not-both (bad cell) (f .unsound) (found .none z cell p (read-listed s cell listed .below))))
+      absurd (not-both (bad cell) b (found .none z cell p (read-listed s cell (f .listed) .below))))
       (λ h. h)
       (eq-zero-or-pos (lowestUnsound ram s)) in
       let low : cell ≤ lowestUnsound ram s =
       ⊎-elim
       (λ (h : lowestUnsound ram s < cell).
-      absurd (not-both (bad (lowestUnsound ram s)) (found .found l) (f .first (lowestUnsound ram s) h)))
+      absurd (bad-unsound _ (found .found l) (f .first _ (bad-listed _ (found .found l)) h)))
       (λ h. h)
       (lt-or-ge (lowestUnsound ram s) cell) in
       let high : lowestUnsound ram s ≤ cell =
-      ⊎-elim (λ (h : cell < lowestUnsound ram s). absurd (not-both (bad cell) (f .unsound) (found .first cell p h)))
+      ⊎-elim (λ (h : cell < lowestUnsound ram s). absurd (not-both (bad cell) b (found .first cell p h)))
       (λ h. h)
       (lt-or-ge cell (lowestUnsound ram s)) in
       let e : lowestUnsound ram s ≡ cell = omega arith in
       let some : lowestUnsound ram s ≡ 0 → ⊥ = λ z. omega arith in
-      rw (← before-none ram s (accepted-ground ram s a), ne-eqb _ _ some, e)
+      rw (← before-none ram s (accepted-ground ram s (f .accepted)), ne-eqb _ _ some, e)
 
 -- with answer 0 the cell of every command at subaddresses 1 to 30 is sound
 pub fine-command :

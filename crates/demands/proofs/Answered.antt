@@ -31,7 +31,7 @@ use Rattle.label.specs.declared.whole.AreaLabel.{AreaLabel}
 use Rattle.label.specs.Label.{cellTests, cellRefusal, sharersOf, countedOf, cellAnswer, cellLabel, areaAnswer, areaPairs, areaUnsound, areaLabel, pairsInto}
 use Rattle.area.specs.Area.{groundTests, groundRefusal, areaTests, areaRefusal, checkArea}
 use Rattle.area.proofs.area
-use Rattle.area.proofs.Whole.{area-unsound, area-no-cell}
+use Rattle.area.proofs.Whole.{area-lowest, area-no-cell}
 use Rattle.message.specs.Heard.{Heard, heardBytes}
 use Rattle.message.specs.Tests.{testsFor, recordTests, refusalFor}
 use Rattle.message.specs.Answer.{refusedWith}
@@ -98,7 +98,7 @@ check-answered ram s back e =
       answered =
           answered (areaTests ram s) _ back _ ram ram refl refl (ap (λ (c : Checked). c .number) e) (λ m. refl)
           (λ m. refl);
-      named = rw e (area-unsound ram s);
+      named = rw e (area-lowest ram s);
       unnamed = rw e (area-no-cell ram s);
     }
 
