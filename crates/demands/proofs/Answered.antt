@@ -171,7 +171,7 @@ pub number-answered :
     number ≡ firstOf tests →
     NumberAnswered tests number
 number-answered tests number order some e =
-    answered {Lent = Unit {0}} tests number number (λ n. n) tt tt order some e (λ m. refl) (λ m. refl)
+    answered tests {Lent = Unit {0}} number number (λ n. n) tt tt order some e (λ m. refl) (λ m. refl)
 
 -- ---- the label
 

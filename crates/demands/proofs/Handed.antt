@@ -31,8 +31,8 @@ heard-shown (e ∷ es) (m ∷ ms) a = λ i. sym (a .0 .heard) i ∷ heard-shown 
 -- where two words are lent, what is put back is what is read
 remembered-back : (xs : List ℕ) (r : Remembered) → 2 ≤ length xs → rememberedFrom (over xs (rememberedWords r)) ≡ r
 unfolding rememberedFrom rememberedWords
-remembered-back [] r h = omega arith
-remembered-back (a ∷ []) r h = omega arith
+remembered-back [] r h = let no : ⊥ = omega arith in absurd no
+remembered-back (a ∷ []) r h = let no : ⊥ = omega arith in absurd no
 remembered-back (a ∷ b ∷ rest) r h = refl
 
 -- only RAM and the remembered state are handed on

@@ -77,7 +77,7 @@ pub record CheckAnswered (ram : List ℕ) (s : Settings) (back : Checked) : Type
 
 -- a function that answers with the number alone, and is lent nothing to be changed
 abbrev pub NumberAnswered : List Test → ℕ → Type 0
-NumberAnswered tests number = Answered {Lent = Unit {0}} tests number number (λ n. n) tt tt
+NumberAnswered tests number = Answered tests {Lent = Unit {0}} number number (λ n. n) tt tt
 
 -- the reader tests what a message from bytes tests of its record
 abbrev pub ReadAnswered : List ℕ → Reading → Type 0
