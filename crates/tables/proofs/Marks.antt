@@ -13,7 +13,7 @@ use Rattle.origin.specs.declared.origin.Part.{Part}
 use Rattle.origin.specs.declared.origin.Part.the-variants.{Data, Pointer, Stack, StackPointer}
 use Rattle.origin.specs.Origin.{partAt, written}
 use Rattle.who.specs.Values.{partKind, partPlace}
-use Rattle.tables.specs.Mark.{markOf, partMarked, entryOf, placeFits, isEntry}
+use Rattle.tables.specs.Mark.{markOf, partMarked, entryOf, placeFits, isMark, isEntry}
 
 kind-few : (part : Part) → partKind part ≤ 4
 kind-few (Data place) = omega arith

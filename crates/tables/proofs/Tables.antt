@@ -270,7 +270,7 @@ module _ (s : Settings) (hs : List Heard) (image : List ℕ) (a : ℕ) (good : s
   -- an image that is refused: so are its tables
   module _ (r : ramRefused (length image) ≡ true) where
     blank-refused : refusalOf s blank ≡ ramLength
-    unfolding fillRefusal tablesRefused firstOf
+    unfolding fillRefusal tablesRefused firstOf blankTables
     blank-refused = rw r
 
     blank-entry : entryRefusal (blank .numbers) (blank .marks) a ≡ ramLength
@@ -347,7 +347,7 @@ module _ (s : Settings) (hs : List Heard) (image : List ℕ) (a : ℕ) (good : s
 
       few : blank .at .number + length hs < 2 ^ 64
       unfolding blankTables
-      few = n
+      few = omega arith
 
       blank-good : Good blank a
       unfolding blankTables isEntry
