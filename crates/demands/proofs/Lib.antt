@@ -5,6 +5,7 @@ pub mod Sent
 pub mod Worked
 pub mod Back
 pub mod Walks
+pub mod Filled
 pub mod Seen
 pub mod First
 pub mod Second

@@ -8,6 +8,7 @@ use Rattle.demands.specs.Calls.{fromBytes, fromValue, walked, Exported, 
 use Rattle.demands.specs.Second.{MessageWorked, ExportedWorked, Demand}
 use Rattle.demands.proofs.Worked.{stepped, message-worked}
 use Rattle.demands.proofs.Walks.{walks}
+use Rattle.demands.proofs.Filled.{entry-is-answer, exported-entry-is-answer}
 use Rattle.demands.proofs.Back.{gives-value, gives-bytes, back-read, back-written}
 
 exported-worked :
@@ -50,4 +51,6 @@ second =
       exported-write =
           λ c w e.
           (c .allowed .0 ∙ rw (e, ← (w .allowed)), c .allowed .1 ∙ rw (e, ← (w .allowed)));
+      every-address = entry-is-answer;
+      exported-every-address = exported-entry-is-answer;
     }

@@ -6,7 +6,7 @@
 -- `valueIn` and `bytesOf`.
 use Prim.Native.Nat.{ℕ, _+_, _<_}
 use mathlib.Core.Path.{_≡_}
-use mathlib.Core.List.{_++_, map}
+use mathlib.Core.List.{List, _++_, map}
 use lib.ListN.{length, getD, drop}
 use denote.Ref.{now}
 use Rattle.words.specs.Bits.{bitOf}
@@ -31,6 +31,7 @@ use Rattle.lent_messages.specs.Values.{valueFrom, valueWords}
 use Rattle.lent_messages.specs.Call.{stateIn, handedBack}
 use Rattle.demands.specs.Calls.{Message, FromBytes, fromBytes, FromValue, fromValue, Read, Write, ReadWritten, WriteRead, Walk, walked, Exported, ExportedBytes, exportedBytes, ExportedValue, exportedValue, ExportedRead, ExportedWrite}
 use Rattle.demands.specs.Walks.{Walks}
+use Rattle.demands.specs.Filled.{Fill, EntryAt, Ask, SameQuestion, ExportedFill, ExportedEntry, ExportedAsk, SameExportedQuestion}
 
 -- what document 01 works out of a message
 abbrev pub planned : Message → Plan
@@ -130,3 +131,11 @@ pub record Demand : Type 0 where
       (c : ExportedWrite) (w : Write) →
       valueFrom (now (c .given .0)) ≡ w .given .0 →
       (c .back ≡ w .back .number) × (c .left .1 .0 ≡ over (now (c .given .1 .0)) (w .back .bytes))
+  -- "Who put this word here" (document 02, request 10), for every address at once: each entry of tables that were filled
+  -- part by part is the one-address answer, also where both are refusals; a part that was refused counts for nothing
+  pub every-address : (fills : List Fill) (e : EntryAt) (q : Ask) → SameQuestion fills e q → e .back ≡ q .back
+  pub exported-every-address :
+      (fills : List ExportedFill) (e : ExportedEntry) (q : ExportedAsk) →
+      SameExportedQuestion fills e q →
+      (e .back ≡ q .back)
+      × ((e .left .1 .1 .1 .0 ≡ q .left .1 .1 .1 .1 .0) × (e .left .1 .1 .1 .1 .0 ≡ q .left .1 .1 .1 .1 .1 .0))
