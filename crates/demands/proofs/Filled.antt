@@ -100,7 +100,7 @@ module _ (fills : List ExportedFill) (e : ExportedEntry) (q : ExportedAsk) (k : 
       ≡ asked (settingsFrom (now (q .given .1 .0))) (q .given .1 .1 .0) (heardIn (now (q .given .1 .1 .1 .0)))
       (now (q .given .0)) .at .who
   same-who =
-      let room = record { remembered = k .remembered-room; records = k .records-room } in
+      let room : Room (k .begin) = record { remembered = k .remembered-room; records = k .records-room } in
       let filled = exported-filled (k .settings) (k .begin) (k .end) fills room (k .filled) in
       let same =
       same-answer (k .settings) (recordsTaken (map exportedPart fills)) (k .image) (tablesIn (k .end))
