@@ -1,5 +1,7 @@
 -- Tables that tell of every address who put its word there ("Who put this word here", document 02, request 10), filled
 -- part by part, and the question about one address.
+-- To believe: `heardIn`, the whole records of a part; `blankTables`, tables of zeros beside an image, with nothing
+-- remembered and no record gone by; `tablesIn`, what a caller in C or Rust lends, as values.
 use Prim.Native.Nat.{ℕ, _^_, _≤_, _<_}
 use mathlib.Core.Path.{_≡_}
 use mathlib.Core.Bool.{false, cond}
