@@ -96,12 +96,14 @@ pub fn entry(numbers: &[u64], marks: &[u16], address: u16) -> Told {
         return refused(refusal::RAM_LENGTH);
     }
     let address = usize::from(address);
-    let Some((&number, &word)) = numbers.get(address).zip(marks.get(address)) else {
+    if address >= RAM_WORDS {
         return refused(refusal::BEYOND_RAM);
-    };
-    match told_by(word) {
-        Some(part) if number != 0 => (0, number, part),
-        None if (number, word) == (0, 0) => (0, 0, [0; 3]),
-        _ => refused(refusal::RECORD_LAYOUT),
+    }
+    match (numbers[address], marks[address]) {
+        (0, 0) => (0, 0, [0; 3]),
+        (number, word) => match told_by(word) {
+            Some(part) if number != 0 => (0, number, part),
+            _ => refused(refusal::RECORD_LAYOUT),
+        },
     }
 }

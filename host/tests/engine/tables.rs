@@ -8,6 +8,7 @@ use plain_terminal::random::Random;
 use plain_terminal::terminal::boundary::settings_words;
 use plain_terminal::terminal::lent_tables::{entry, fill, Lent, Told};
 use plain_terminal::terminal::who::{who, Origin};
+use plain_terminal::terminal::words::Command;
 use plain_terminal::terminal::writes::Part;
 use plain_terminal::terminal::{write_record, Settings};
 
@@ -125,7 +126,13 @@ fn parts(one: Fill, other: Fill, seed: u64) -> Option<(Lent, Vec<u8>)> {
     for _ in 0..16 {
         let mut part = Vec::new();
         for _ in 0..random.below(4) {
-            part.extend(write_record(&random.record(5)).unwrap_or([0xFF; 80]));
+            // Subaddress 3 as a rule, whose cells are sound.
+            let three = Command(0x2860 | random.word() & 0x041F);
+            let record = match random.below(4) {
+                0 => random.record(5),
+                _ => random.record_for(three),
+            };
+            part.extend(write_record(&record).unwrap_or([0xFF; 80]));
         }
         let way = random.pick(&WAYS);
         if lend(one, &mut left, way, &part) != lend(other, &mut right, way, &part) {
@@ -139,16 +146,13 @@ fn parts(one: Fill, other: Fill, seed: u64) -> Option<(Lent, Vec<u8>)> {
 }
 
 fn told(origin: Option<Origin>) -> Told {
-    let Some(Origin { record, cell, part }) = origin else {
-        return (0, 0, [0; 3]);
-    };
-    let part = match part {
+    let part = |Origin { cell, part, .. }: Origin| match part {
         Part::Data(place) => [1, cell, place],
         Part::Pointer => [2, cell, 0],
         Part::Stack(place) => [3, cell, place],
         Part::StackPointer => [4, cell, 0],
     };
-    (0, record, part)
+    origin.map_or((0, 0, [0; 3]), |it| (0, it.record, part(it)))
 }
 
 #[test]
@@ -205,11 +209,12 @@ fn planted_errors_of_tables_are_found() {
             told => told,
         }
     };
-    let lone_marks_are_blank: Entry = |numbers, marks, address| {
-        match (entry(numbers, marks, address), numbers[usize::from(address)]) {
-            ((5, _, _), 0) => (0, 0, [0; 3]),
-            (told, _) => told,
-        }
+    let lone_marks_are_blank: Entry = |numbers, marks, address| match (
+        entry(numbers, marks, address),
+        numbers[usize::from(address)],
+    ) {
+        ((5, _, _), 0) => (0, 0, [0; 3]),
+        (told, _) => told,
     };
     assert!(first_length_that_differs(proved_entry, short_marks_are_zero).is_some());
     assert!(first_length_that_differs(proved_entry, any_length).is_some());
