@@ -12,12 +12,12 @@
  *   - Nothing that the function writes overlaps anything else of the same call.
  *   - Until it returns, no other thread writes what is lent or reads what the function writes.
  *
- * Three lengths are refused where they are wrong: ram has 4,096 words, no more and no fewer; reply at least 33; a
- * record that is read 80 bytes, no more and no fewer.
+ * Some lengths are refused where they are wrong: ram has 4,096 words, no more and no fewer; numbers and marks each as
+ * many; reply at least 33; a record that is read 80 bytes, no more and no fewer.
  *
- * All else may have any length. What is missing of settings, remembered or value is read as 0. What remembered, answer,
- * value, listing, counts, unsound, pairs, description, numbers, marks, records, last, part or the bytes that are
- * written have no room for is dropped; where they are longer, the rest keeps its contents.
+ * All else may have any length. What is missing of settings, remembered, records or value is read as 0. What remembered,
+ * answer, value, listing, counts, unsound, pairs, description, records, last, part or the bytes that are written have no
+ * room for is dropped; where they are longer, the rest keeps its contents.
  *
  * settings: RT address; area (0 is A, any other word B); stack size in words; then yes/no (0 is no): overwrite-invalid,
  *   separate-broadcast, illegal-receive-disable, busy-receive-disable, busy-always, service request, subsystem flag,
@@ -39,9 +39,11 @@
  *   words the window has, its faults; of the stack its pointer, the first word of its block, how many words the block
  *   has, its faults. Faults are added up; there are none, 0, exactly where it is sound.
  *
- * numbers, marks: for each address of RAM a number and a word, all 0 at first; a trace fills them, and
- *   solkverva_who_entry tells what they say. Lend both with 4,096.
- * records: one number, how many records of the trace have gone by, 0 at first.
+ * numbers, marks: for each address of RAM a number and a word, all 0 at first; solkverva_who_fill fills them, and
+ *   solkverva_who_entry tells what they say. Both have as many as RAM has words, 4,096: with any other length of either,
+ *   both functions answer 1. A number and a word that solkverva_who_fill did not leave together are answered with 5.
+ * records: one number, how many records of the trace have gone by, 0 at first. A trace in parts needs its room: without
+ *   it every part counts its records from 1.
  * last: one number, that of the last record that wrote the word, counted from 1; 0 where it is as in the image.
  * part: what that record wrote there (1 a data word, 2 a lookup pointer, 3 a word of the stack, 4 the stack pointer; 0
  *   where the word is as in the image); the cell of its message; the place, counted from 1, of a data word in its
@@ -107,11 +109,11 @@ enum {
  * else that is handed back is zero (but for the cell that the whole-area check adds to 9). */
 enum {
     SOLKVERVA_DONE = 0,
-    SOLKVERVA_RAM_LENGTH = 1,      /* RAM is not 4,096 words */
+    SOLKVERVA_RAM_LENGTH = 1,      /* RAM is not 4,096 words, or numbers or marks are not as many */
     SOLKVERVA_REPLY_ROOM = 2,      /* reply buffer under 33 words */
     SOLKVERVA_BAD_SETTINGS = 3,    /* RT address over 30 (31 with broadcast off), or stack size none of the four */
     SOLKVERVA_RECORD_LENGTH = 4,   /* record is not 80 bytes */
-    SOLKVERVA_RECORD_LAYOUT = 5,   /* record breaks its layout */
+    SOLKVERVA_RECORD_LAYOUT = 5,   /* record breaks its layout, or what numbers and marks hold of an address does */
     SOLKVERVA_OTHER_ADDRESS = 6,   /* not own address, and not 31 with broadcast on */
     SOLKVERVA_MODE_SUBADDRESS = 7, /* subaddress 0 or 31 */
     SOLKVERVA_UNSOUND_STACK = 8,   /* stack unsound */
@@ -177,18 +179,24 @@ uint16_t solkverva_describe_stack(const uint16_t *ram, size_t ram_words, const u
 
 /* Who put each word where it is: goes on over all whole records of this part of a trace. RAM holds the image at first, and
  * what the records leave afterwards; lend each part what the one before left. A refused record is counted and writes
- * nothing. The number: 0, 1 or 3. */
+ * nothing. The number: 0; 1 where RAM is not 4,096 words, or numbers or marks are not as many; 3. A part that is refused
+ * changes nothing, and nothing remembers it: whatever part is lent next goes on as if the refused one had not been lent,
+ * so it can be lent again as it should be. */
 uint16_t solkverva_who_fill(uint16_t *ram, size_t ram_words, uint64_t *numbers, size_t numbers_length, uint16_t *marks,
                             size_t marks_words, const uint16_t *settings, size_t settings_words, uint16_t *remembered,
                             size_t remembered_words, uint64_t *records, size_t records_length, const uint8_t *trace,
                             size_t trace_length);
 
-/* What the tables say of an address. The number: 0, or 12 for an address at or behind the end of numbers. */
+/* What the tables say of an address. Where solkverva_who_fill filled them from zeros, that is what solkverva_who answers
+ * for the records of all parts that were not refused. The number: 0; 1 where numbers and marks are not both 4,096 long,
+ * for every address; 5 where what they hold of the address is no entry (a number without a mark, a mark without a number,
+ * a word that is no mark); 12 for an address beyond the RAM. */
 uint16_t solkverva_who_entry(const uint64_t *numbers, size_t numbers_length, const uint16_t *marks, size_t marks_words,
                              uint16_t address, uint64_t *last, size_t last_length, uint16_t *part, size_t part_words);
 
 /* Who put the word at one address where it is, after a whole trace; a short tail is no record. RAM holds the image, and
- * what the trace leaves afterwards. The number: 0, 1, 3 or 12. */
+ * what the trace leaves afterwards. The number: 0, 1, 3 or 12. Each call is a question of its own: one that is refused
+ * leaves RAM as it was, and the next is answered for itself. */
 uint16_t solkverva_who(uint16_t *ram, size_t ram_words, const uint16_t *settings, size_t settings_words,
                        uint16_t address, const uint8_t *trace, size_t trace_length, uint64_t *last, size_t last_length,
                        uint16_t *part, size_t part_words);

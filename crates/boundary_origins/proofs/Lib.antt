@@ -1,3 +1,4 @@
 pub mod Filled
 pub mod NotTold
+pub mod GoOn
 pub mod Determined

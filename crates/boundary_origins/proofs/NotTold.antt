@@ -4,26 +4,27 @@ use mathlib.Core.Path.{_≡_, refl}
 use mathlib.Core.List.{List}
 use lib.ListN.{length, replicate}
 use lib.Seq.{set-getD}
-use borrow.Author.Tests.{ne-eqb}
 use Rattle.words.specs.declared.settings.Settings.{Settings}
 use Rattle.message.specs.Heard.{Heard}
 use Rattle.origin.specs.declared.origin.Who.{Who}
 use Rattle.origin.specs.declared.origin.Who.the-variants.{Refused, AsInImage, Written}
-use Rattle.who.specs.Tests.{replayRefusal, whoRefusal}
-use Rattle.who.specs.Replay.{goneOn, refusedAt, asked}
-use Rattle.tables.specs.Table.{filledWith}
+use Rattle.who.specs.Tests.{whoRefusal}
+use Rattle.who.specs.Replay.{refusedAt, asked}
 use Rattle.who.specs.Values.{valuesOf}
-use Rattle.boundary_origins.specs.Origins.{partWords, LentTables, fillingFrom, tablesBack, tablesAfter}
+use Rattle.who.proofs.Answers.{who-put-this-here}
+use Rattle.tables.specs.Table.{refusalOf}
+use Rattle.tables.proofs.Parts.{filled-refused}
+use Rattle.boundary_origins.specs.Origins.{partWords, LentTables, fillingFrom, tablesIn, tablesBack, tablesAfter}
 use Rattle.lent.proofs.Kept.{remembered-kept}
 
 -- the tables' call: everything keeps its contents
 pub fill-refused :
     (s : Settings) (hs : List Heard) (l : LentTables) →
-    (replayRefusal (length (l .ram)) s ≡ 0 → ⊥) →
+    (refusalOf s (tablesIn l) ≡ 0 → ⊥) →
     tablesAfter s hs l ≡ l
-unfolding tablesAfter tablesBack filledWith fillingFrom
+unfolding tablesAfter tablesBack fillingFrom
 fill-refused s hs l m =
-    rw (ne-eqb (replayRefusal (length (l .ram)) s) 0 m, remembered-kept (l .remembered), set-getD (l .records) 0 0)
+    rw (filled-refused s hs (tablesIn l) m, remembered-kept (l .remembered), set-getD (l .records) 0 0)
 
 -- an answer that is a refusal: no record, no part
 pub not-told :
@@ -38,5 +39,5 @@ pub who-refused :
     (s : Settings) (a : ℕ) (hs : List Heard) (ram : List ℕ) →
     (whoRefusal (length ram) s a ≡ 0 → ⊥) →
     asked s a hs ram .ram ≡ ram
-unfolding asked goneOn refusedAt
-who-refused s a hs ram m = rw (ne-eqb (whoRefusal (length ram) s a) 0 m)
+unfolding refusedAt
+who-refused s a hs ram m = rw (who-put-this-here s a hs ram .refused m)

@@ -2,14 +2,12 @@
 // of an address, and the question about one address.
 ghost use mathlib.Core.Path.{_≡_};
 ghost use mathlib.Core.List.{[], _∷_};
-ghost use lib.ListN.{length};
-ghost use Rattle.who.specs.Tests.{replayRefusal};
 ghost use Rattle.who.specs.Replay.{heardIn, asked};
-ghost use Rattle.tables.specs.Table.{entryAt};
+ghost use Rattle.tables.specs.Table.{entryAt, refusalOf};
 ghost use Rattle.who.specs.Values.{valuesOf};
 ghost use Rattle.lent.specs.Over.{over};
 ghost use Rattle.lent.specs.Setup.{settingsFrom, rememberedWords};
-ghost use Rattle.boundary_origins.specs.Origins.{partWords, fillingFrom, lentTablesOf, tablesAfter};
+ghost use Rattle.boundary_origins.specs.Origins.{partWords, fillingFrom, lentTablesOf, tablesIn, tablesAfter};
 use lent::setup::put_remembered;
 use lent::setup::remembered_from;
 use lent::setup::settings_from;
@@ -64,7 +62,7 @@ fn put_filling(remembered: &mut [u16], records: &mut [u64], at: Filling)
 }
 
 // A part of a trace, for every address at once. RAM is replayed where it is lent, and the tables go on from what they
-// hold.
+// hold. Every call tests what it is given, and nothing remembers a refusal.
 #[no_mangle]
 pub extern "C" fn solkverva_who_fill(
     ram: &mut [u16],
@@ -75,7 +73,7 @@ pub extern "C" fn solkverva_who_fill(
     records: &mut [u64],
     trace: &[u8],
 ) -> u16
-    ensures number { λ r. ⌜ r ≡ replayRefusal (length (now (ram .entry))) (settingsFrom (now (settings .entry))) ⌝ }
+    ensures number { λ r. ⌜ r ≡ refusalOf (settingsFrom (now (settings .entry))) (tablesIn (lentTablesOf (now (ram .entry)) (now (numbers .entry)) (now (marks .entry)) (now (remembered .entry)) (now (records .entry)))) ⌝ }
     ensures lent { λ r. ⌜ lentTablesOf (now (ram .exit)) (now (numbers .exit)) (now (marks .exit)) (now (remembered .exit)) (now (records .exit)) ≡ tablesAfter (settingsFrom (now (settings .entry))) (heardIn (now (trace .entry))) (lentTablesOf (now (ram .entry)) (now (numbers .entry)) (now (marks .entry)) (now (remembered .entry)) (now (records .entry))) ⌝ }
 {
     let s = settings_from(settings);

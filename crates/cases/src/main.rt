@@ -6,6 +6,7 @@ mod commands;
 mod lines;
 mod messages;
 mod names;
+mod origins;
 mod pairs;
 mod ram;
 mod ranges;

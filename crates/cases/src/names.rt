@@ -45,6 +45,8 @@ pub(crate) const MESSAGE: u64 = 0x6D_65_73_73_61_67_65; // message
 
 pub(crate) const BYTES: u64 = 0x62_79_74_65_73; // bytes
 
+pub(crate) const PART: u64 = 0x70_61_72_74; // part
+
 pub(crate) const RAM: u64 = 0x72_61_6D; // ram
 
 pub(crate) const REPLY: u64 = 0x72_65_70_6C_79; // reply

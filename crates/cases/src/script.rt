@@ -8,6 +8,7 @@ use crate::lines::numbers_of;
 use crate::lines::read_line;
 use crate::messages;
 use crate::names;
+use crate::origins;
 use crate::pairs;
 use crate::ram;
 use crate::ranges;
@@ -55,6 +56,7 @@ fn answered(
     match name {
         names::MESSAGE => return messages::message(memory, reply, b, n),
         names::BYTES => return messages::bytes(memory, reply, b, n),
+        names::PART => return origins::part(memory, b, n),
         names::ORDER => {
             let s = b.settings;
             pairs::order(*memory, s, n);

@@ -20,9 +20,11 @@ use Rattle.message.proofs.heard
 use Rattle.message.proofs.serve
 use Rattle.trace.proofs.walk
 use Rattle.who.specs.Replay.{heardIn}
-use Rattle.who.specs.Tests.{replayTests, replayRefusal, whoTests, whoRefusal}
+use Rattle.who.specs.Tests.{whoTests, whoRefusal}
 use Rattle.who.proofs.tests
+use Rattle.tables.specs.Tests.{fillTests, fillRefusal}
 use Rattle.tables.proofs.table
+use Rattle.tables.proofs.tests as table-tests
 use Rattle.replay.proofs.question
 use Rattle.replay.proofs.fill
 use Rattle.view.proofs.view
@@ -46,13 +48,15 @@ ground-first : (ram : List ℕ) (s : Settings) → groundRefusal ram s ≡ first
 unfolding groundRefusal
 ground-first ram s = refl
 
-replay-first : (words : ℕ) (s : Settings) → replayRefusal words s ≡ firstOf (replayTests words s)
-unfolding replayRefusal
-replay-first words s = refl
-
 who-first : (words : ℕ) (s : Settings) (a : ℕ) → whoRefusal words s a ≡ firstOf (whoTests words s a)
 unfolding whoRefusal
 who-first words s a = refl
+
+fill-first :
+    (words numbers marks : ℕ) (s : Settings) →
+    fillRefusal words numbers marks s ≡ firstOf (fillTests words numbers marks s)
+unfolding fillRefusal
+fill-first words numbers marks s = refl
 
 pub first : Demand
 first =
@@ -145,15 +149,6 @@ first =
                 number-answered (groundTests (now (c .given .0)) (c .given .1 .0)) (c .back) refl refl
                 (c .allowed ∙ ground-first (now (c .given .0)) (c .given .1 .0));
           };
-      replay-refusal =
-          record {
-            any = λ κs given. tt;
-            ends = tests.replay_refusal.Met.met;
-            says =
-                λ c.
-                number-answered (replayTests (c .given .0) (c .given .1 .0)) (c .back) refl refl
-                (c .allowed ∙ replay-first (c .given .0) (c .given .1 .0));
-          };
       who-refusal =
           record {
             any = λ κs given. tt;
@@ -162,6 +157,16 @@ first =
                 λ c.
                 number-answered (whoTests (c .given .0) (c .given .1 .0) (c .given .1 .1 .0)) (c .back) refl refl
                 (c .allowed ∙ who-first (c .given .0) (c .given .1 .0) (c .given .1 .1 .0));
+          };
+      fill-refusal =
+          record {
+            any = λ κs given. tt;
+            ends = table-tests.fill_refusal.Met.met;
+            says =
+                λ c.
+                number-answered
+                (fillTests (c .given .0) (c .given .1 .0) (c .given .1 .1 .0) (c .given .1 .1 .1 .0)) (c .back) refl refl
+                (c .allowed ∙ fill-first (c .given .0) (c .given .1 .0) (c .given .1 .1 .0) (c .given .1 .1 .1 .0));
           };
       describe-cell =
           record {

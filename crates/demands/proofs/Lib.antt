@@ -7,6 +7,7 @@ pub mod Served
 pub mod Called
 pub mod Back
 pub mod Walks
+pub mod Filled
 pub mod Room
 pub mod Seen
 pub mod Handed

@@ -10,6 +10,7 @@ use Rattle.demands.proofs.Worked.{stepped, message-worked}
 use Rattle.demands.proofs.Served.{served-meets, meets}
 use Rattle.demands.proofs.Called.{perform-bytes, perform-value, plan-bytes, plan-value}
 use Rattle.demands.proofs.Walks.{walks}
+use Rattle.demands.proofs.Filled.{entry-is-answer, exported-entry-is-answer}
 use Rattle.demands.proofs.Back.{gives-value, gives-bytes, takes-value, back-read, back-written}
 
 exported-worked :
@@ -60,4 +61,6 @@ second =
       exported-write =
           λ c w e.
           (c .allowed .0 ∙ rw (e, ← (w .allowed)), c .allowed .1 ∙ rw (e, ← (w .allowed)));
+      every-address = entry-is-answer;
+      exported-every-address = exported-entry-is-answer;
     }

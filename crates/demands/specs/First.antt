@@ -2,19 +2,20 @@
 -- refusal in the stated order. A refusal returns its number with everything else zero, save a cell number the area
 -- check names, and changes no word of RAM, reply or remembered state."
 -- To believe: what `Answered` and `Meets` name; the tests of each entry point (`testsFor`, `recordTests`, `writerTests`,
--- `groundTests`, `areaTests`, `cellTests`, `givenTests`, `replayTests`, `whoTests`, `entryTests`); `LowestUnsound`; what
--- each gives back of a refusal (`notRead`, `zeroBytes`, `cellAnswer`, `areaAnswer`, `noCell`, `noStack`, and `valuesOf`
--- for the number of an answer to "who"); `settingsFrom`, `valueFrom`, `stateIn` and `lentTablesOf`, what lent words say.
+-- `groundTests`, `areaTests`, `cellTests`, `givenTests`, `whoTests`, `partTests`, `fillTests`, `entryTests`);
+-- `LowestUnsound`; what each gives back of a refusal (`notRead`, `zeroBytes`, `cellAnswer`, `areaAnswer`, `noCell`,
+-- `noStack`, and `valuesOf` for the number of an answer to "who"); `settingsFrom`, `valueFrom`, `stateIn` and
+-- `lentTablesOf`, what lent words say.
 use Prim.Native.Nat.{ℕ, _+_, _/_, _%_, _≤_, _<_}
 use mathlib.Core.Path.{_≡_}
 use mathlib.Core.Logic.{_↔_}
 use mathlib.Core.Bool.{Bool, true, false, not, _&&_}
 use mathlib.Core.List.{List, [], _∷_}
 use lib.ListN.{length, take, drop, replicate}
-use lib.Dec.{ltb, leb}
+use lib.Dec.{ltb}
 use denote.Ref.{now}
 use Rattle.words.specs.declared.settings.Settings.{Settings}
-use Rattle.words.specs.Number.{recordLayout, unsoundCell, addressBeyond}
+use Rattle.words.specs.Number.{recordLayout, unsoundCell}
 use Rattle.words.specs.Refusal.{Test, _when_}
 use Rattle.records.specs.declared.value.Record.{Record}
 use Rattle.records.specs.Value.{keepsLayout}
@@ -44,10 +45,12 @@ use Rattle.trace.proofs.walk
 use Rattle.origin.specs.declared.origin.Who.{Who}
 use Rattle.origin.specs.declared.origin.Who.the-variants.{Refused}
 use Rattle.who.specs.declared.standing.Standing.{Standing}
-use Rattle.who.specs.Tests.{replayTests, whoTests}
+use Rattle.who.specs.Tests.{whoTests, partTests}
 use Rattle.who.specs.Values.{valuesOf}
 use Rattle.who.proofs.tests
+use Rattle.tables.specs.Tests.{fillTests, entryTests}
 use Rattle.tables.proofs.table
+use Rattle.tables.proofs.tests as table-tests
 use Rattle.replay.proofs.question
 use Rattle.replay.proofs.fill
 use Rattle.view.specs.declared.view.Taken.{Taken}
@@ -101,19 +104,16 @@ ExportedAnswered e =
     (e .after .ram ∷ e .after .reply ∷ e .after .remembered ∷ [])
 
 -- "Who put this word here" (document 02, request 10): the answer's number, and with a refusal no more. A part of a
--- trace goes on from an answer, which it leaves as it was beside the refusal.
+-- trace goes on from an answer: where that is a refusal, it is handed back as it is (`partTests`), and where the part is
+-- refused, all beside the refusal is as it was.
 abbrev pub AskAnswered : Settings → ℕ → List ℕ → Who → List ℕ → Type 0
 AskAnswered s a ram back after =
     Answered (whoTests (length ram) s a) (valuesOf back .number) back (λ n. Refused n) ram after
 
 abbrev pub GoOnAnswered : Settings → ℕ → List ℕ → Standing → Standing → List ℕ → Type 0
 GoOnAnswered s a ram at back after =
-    Answered (whoTests (length ram) s a) (valuesOf (back .who) .number) back
+    Answered (partTests (length ram) s a (valuesOf (at .who) .number)) (valuesOf (back .who) .number) back
     (λ n. record { remembered = at .remembered; number = at .number; who = Refused n }) ram after
-
--- of what tables say of an address: "12 for an address beyond the RAM."
-abbrev pub entryTests : List ℕ → ℕ → List Test
-entryTests numbers a = addressBeyond when leb (length numbers) a ∷ []
 
 -- and for a caller in C or Rust: a refusal tells record 0, and puts zeros over the part
 abbrev pub ToldAnswered : List Test → ℕ → List ℕ → List ℕ → List ℕ → List ℕ → {Lent : Type 0} → Lent → Lent → Type 0
@@ -197,19 +197,20 @@ pub record Demand : Type 2 where
       Answered (groundTests (now (c .given .0)) (c .given .1 .0)) (c .back .number) (c .back) (λ n. areaAnswer n [] 0)
       (now (c .given .1 .1 .0))
       (c .left .1 .1 .0))
-  -- the tests alone, for those who do the rest: of RAM and settings, of a replay, and of a question about an address
+  -- the tests alone, for those who do the rest: of RAM and settings, of a question about an address, and of tables
   pub ground-refusal :
       Entry 1 area.ground_refusal.Kinds.ps area.ground_refusal.Kinds.r area.ground_refusal.Reads.Pre
       area.ground_refusal.Reads.Post area.ground_refusal.Statement.statement
       (λ c. NumberAnswered (groundTests (now (c .given .0)) (c .given .1 .0)) (c .back))
-  pub replay-refusal :
-      Entry 0 tests.replay_refusal.Kinds.ps tests.replay_refusal.Kinds.r tests.replay_refusal.Reads.Pre
-      tests.replay_refusal.Reads.Post tests.replay_refusal.Statement.statement
-      (λ c. NumberAnswered (replayTests (c .given .0) (c .given .1 .0)) (c .back))
   pub who-refusal :
       Entry 0 tests.who_refusal.Kinds.ps tests.who_refusal.Kinds.r tests.who_refusal.Reads.Pre
       tests.who_refusal.Reads.Post tests.who_refusal.Statement.statement
       (λ c. NumberAnswered (whoTests (c .given .0) (c .given .1 .0) (c .given .1 .1 .0)) (c .back))
+  pub fill-refusal :
+      Entry 0 table-tests.fill_refusal.Kinds.ps table-tests.fill_refusal.Kinds.r table-tests.fill_refusal.Reads.Pre
+      table-tests.fill_refusal.Reads.Post table-tests.fill_refusal.Statement.statement
+      (λ c.
+      NumberAnswered (fillTests (c .given .0) (c .given .1 .0) (c .given .1 .1 .0) (c .given .1 .1 .1 .0)) (c .back))
   -- what a cell and the stack are like, also for callers in C and Rust
   pub describe-cell :
       Entry 1 described-cell.describe_cell.Kinds.ps described-cell.describe_cell.Kinds.r
@@ -287,8 +288,7 @@ pub record Demand : Type 2 where
       (λ c.
       Answered (writerTests (valueFrom (now (c .given .0)))) (c .back) (c .left .1 .0)
       (λ n. over (now (c .given .1 .0)) (replicate 80 0)) (now (c .given .0)) (now (c .given .0)))
-  -- "Who put this word here", for one address: of a whole trace, and of a part of one, after an answer that is no
-  -- refusal
+  -- "Who put this word here", for one address: of a whole trace, and of a part of one, after any answer
   pub ask :
       Entry 2 question.ask.Kinds.ps question.ask.Kinds.r question.ask.Reads.Pre question.ask.Reads.Post
       question.ask.Statement.statement
@@ -297,7 +297,6 @@ pub record Demand : Type 2 where
       Entry 2 question.go_on.Kinds.ps question.go_on.Kinds.r question.go_on.Reads.Pre question.go_on.Reads.Post
       question.go_on.Statement.statement
       (λ c.
-      valuesOf (c .given .1 .1 .1 .0 .who) .number ≡ 0 →
       GoOnAnswered (c .given .1 .0) (c .given .1 .1 .0) (now (c .given .0)) (c .given .1 .1 .1 .0) (c .back)
       (c .left .0))
   -- and for every address at once: a refusal leaves RAM and the tables, and what is remembered, as they were
@@ -305,7 +304,11 @@ pub record Demand : Type 2 where
       Entry 4 fill.fill.Kinds.ps fill.fill.Kinds.r fill.fill.Reads.Pre fill.fill.Reads.Post
       fill.fill.Statement.statement
       (λ c.
-      Answered (replayTests (length (now (c .given .0))) (c .given .1 .1 .1 .0)) (c .back .number) (c .back)
+      Answered
+      (fillTests (length (now (c .given .0))) (length (now (c .given .1 .0))) (length (now (c .given .1 .1 .0)))
+      (c .given .1 .1 .1 .0))
+      (c .back .number)
+      (c .back)
       (λ n. record { number = n; at = c .given .1 .1 .1 .1 .0 })
       (now (c .given .0) ∷ now (c .given .1 .0) ∷ now (c .given .1 .1 .0) ∷ [])
       (c .left .0 ∷ c .left .1 .0 ∷ c .left .1 .1 .0 ∷ []))
@@ -313,7 +316,8 @@ pub record Demand : Type 2 where
       Entry 2 table.entry_at.Kinds.ps table.entry_at.Kinds.r table.entry_at.Reads.Pre table.entry_at.Reads.Post
       table.entry_at.Statement.statement
       (λ c.
-      Answered (entryTests (now (c .given .0)) (c .given .1 .1 .0)) (valuesOf (c .back) .number) (c .back)
+      Answered (entryTests (now (c .given .0)) (now (c .given .1 .0)) (c .given .1 .1 .0)) (valuesOf (c .back) .number)
+      (c .back)
       (λ n. Refused n)
       (now (c .given .0))
       (now (c .given .0)))
@@ -357,7 +361,10 @@ pub record Demand : Type 2 where
       origins.solkverva_who_fill.Reads.Pre
       origins.solkverva_who_fill.Reads.Post origins.solkverva_who_fill.Statement.statement
       (λ c.
-      Answered (replayTests (length (now (c .given .0))) (settingsFrom (now (c .given .1 .1 .1 .0)))) (c .back)
+      Answered
+      (fillTests (length (now (c .given .0))) (length (now (c .given .1 .0))) (length (now (c .given .1 .1 .0)))
+      (settingsFrom (now (c .given .1 .1 .1 .0))))
+      (c .back)
       (c .back)
       (λ n. n)
       (lentTablesOf (now (c .given .0)) (now (c .given .1 .0)) (now (c .given .1 .1 .0))
@@ -370,7 +377,7 @@ pub record Demand : Type 2 where
       origins.solkverva_who_entry.Reads.Pre
       origins.solkverva_who_entry.Reads.Post origins.solkverva_who_entry.Statement.statement
       (λ c.
-      ToldAnswered (entryTests (now (c .given .0)) (c .given .1 .1 .0)) (c .back)
+      ToldAnswered (entryTests (now (c .given .0)) (now (c .given .1 .0)) (c .given .1 .1 .0)) (c .back)
       (now (c .given .1 .1 .1 .0))
       (now (c .given .1 .1 .1 .1 .0))
       (c .left .1 .1 .1 .0)

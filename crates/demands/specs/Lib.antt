@@ -4,6 +4,7 @@ pub mod Answered
 pub mod Meets
 pub mod Walks
 pub mod Exported
+pub mod Filled
 pub mod First
 pub mod Second
 pub mod Third

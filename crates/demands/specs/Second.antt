@@ -5,7 +5,7 @@
 -- and of bytes say; `readBack` and `writeBack`.
 use mathlib.Core.Path.{_≡_}
 use mathlib.Core.Bool.{true}
-use mathlib.Core.List.{map}
+use mathlib.Core.List.{List, map}
 use lib.ListN.{take, drop}
 use denote.Ref.{now}
 use Rattle.words.specs.declared.remembered.Remembered.{Remembered}
@@ -22,6 +22,7 @@ use Rattle.demands.specs.Calls.{Message, FromBytes, fromBytes, FromValue
 use Rattle.demands.specs.Meets.{planned, MessageWorked}
 use Rattle.demands.specs.Walks.{Walks}
 use Rattle.demands.specs.Exported.{Shown}
+use Rattle.demands.specs.Filled.{Fill, EntryAt, Ask, SameQuestion, ExportedFill, ExportedEntry, ExportedAsk, SameExportedQuestion}
 
 -- for a caller in C or Rust: what is lent afterwards is what one message leaves, of which demands 1 and 2 hold
 pub record ExportedWorked (e : Exported) : Type 0 where
@@ -79,3 +80,11 @@ pub record Demand : Type 0 where
       (c : ExportedWrite) (w : Write) →
       valueFrom (now (c .given .0)) ≡ w .given .0 →
       (c .back ≡ w .back .number) × (c .left .1 .0 ≡ over (now (c .given .1 .0)) (w .back .bytes))
+  -- "Who put this word here" (document 02, request 10), for every address at once: each entry of tables that were filled
+  -- part by part is the one-address answer, also where both are refusals; a part that was refused counts for nothing
+  pub every-address : (fills : List Fill) (e : EntryAt) (q : Ask) → SameQuestion fills e q → e .back ≡ q .back
+  pub exported-every-address :
+      (fills : List ExportedFill) (e : ExportedEntry) (q : ExportedAsk) →
+      SameExportedQuestion fills e q →
+      (e .back ≡ q .back)
+      × ((e .left .1 .1 .1 .0 ≡ q .left .1 .1 .1 .1 .0) × (e .left .1 .1 .1 .1 .0 ≡ q .left .1 .1 .1 .1 .1 .0))

@@ -1,7 +1,7 @@
--- One record of the tables, from what was taken of it; and records one after the other.
+-- One record of the tables, from what was taken of it; and one record more of a trace.
 use Prim.Native.Nat.{ℕ, _+_}
 use native.Mathlib.Numerals.{add-one}
-use mathlib.Core.Path.{_≡_, refl, sym, _∙_}
+use mathlib.Core.Path.{_≡_, sym, _∙_}
 use mathlib.Core.List.{List, [], _∷_, _++_}
 use borrow.Author.Tests.{eq-eqb, ne-eqb}
 use Rattle.words.specs.declared.settings.Settings.{Settings}
@@ -19,6 +19,7 @@ use Rattle.replay.specs.declared.taken.Taken.the-variants.{Passed, Carri
 use Rattle.replay.specs.Taken.{takenOf}
 use Rattle.who.specs.Replay.{heardTo}
 use Rattle.tables.specs.Mark.{markOf}
+use Rattle.tables.proofs.Parts.{fill-append}
 use Rattle.tables.specs.Table.{markWrites, marksIn, Tables, tablesOf, terminalAt, fillRecord, fillAll}
 use Rattle.replay.proofs.Taking.{taken-passed, taken-carried}
 
@@ -59,12 +60,7 @@ module _ (s : Settings) (h : Heard) (t : Tables) (k : Taken) (e : k ≡ takenOf 
         eq-eqb (refusalFor s h x) 0 (f .number),
       )
 
--- two lists of records one after the other
-pub fill-append : (s : Settings) (hs ys : List Heard) (t : Tables) → fillAll s (hs ++ ys) t ≡ fillAll s ys (fillAll s hs t)
-unfolding fillAll
-fill-append s [] ys t = refl
-fill-append s (h ∷ hs) ys t = fill-append s hs ys (fillRecord s h t)
-
+-- one record more of a trace
 pub fill-more :
     (s : Settings) (trace : List ℕ) (n : ℕ) (t : Tables) →
     fillAll s (heardTo trace (n + 1)) t ≡ fillRecord s (heardBytes (recordAt trace n)) (fillAll s (heardTo trace n) t)

@@ -1,4 +1,5 @@
 pub mod Taking
 pub mod Recorded
+pub mod Going
 pub mod Filling
 pub mod Determined

@@ -1,16 +1,14 @@
 // The answer for every address at once: lent tables filled as a trace is replayed.
 ghost use mathlib.Core.Path.{_≡_};
-ghost use lib.ListN.{length};
 ghost use Rattle.message.specs.Heard.{heardBytes};
-ghost use Rattle.who.specs.Tests.{replayRefusal};
 ghost use Rattle.who.specs.Replay.{heardIn};
-ghost use Rattle.tables.specs.Table.{tablesOf, fillRecord, fillAll, filledWith};
+ghost use Rattle.tables.specs.Table.{tablesOf, fillRecord, fillAll, refusalOf, filledWith};
 use crate::taken::Taken;
 use crate::taken::take_record;
 use std::num::wrapping_add_u64;
 use tables::table::Filling;
 use tables::table::mark_plan;
-use who::tests::replay_refusal;
+use tables::tests::fill_refusal;
 use words::settings::Settings;
 
 // The number that refuses, or 0, and where the replay stands.
@@ -68,7 +66,8 @@ fn fill_all(
 }
 
 // A part of a trace: RAM is replayed where it is lent, and the tables go on from what they hold, all zero at first. A
-// table that is shorter than RAM is filled as far as it reaches. A refusal changes nothing.
+// table that is not as long as RAM is refused with 1. A refusal changes nothing, and nothing remembers it: the next part
+// goes on as if the refused one had never been lent.
 pub fn fill(
     ram: &mut [u16],
     numbers: &mut [u64],
@@ -77,10 +76,10 @@ pub fn fill(
     at: Filling,
     trace: &[u8],
 ) -> Filled
-    ensures number { λ r. ⌜ r .number ≡ replayRefusal (length (now (ram .entry))) s ⌝ }
+    ensures number { λ r. ⌜ r .number ≡ refusalOf s (tablesOf (now (ram .entry)) (now (numbers .entry)) (now (marks .entry)) at) ⌝ }
     ensures tables { λ r. ⌜ tablesOf (now (ram .exit)) (now (numbers .exit)) (now (marks .exit)) (r .at) ≡ filledWith s (heardIn (now (trace .entry))) (tablesOf (now (ram .entry)) (now (numbers .entry)) (now (marks .entry)) at) ⌝ }
 {
-    let number = replay_refusal(ram.len(), s);
+    let number = fill_refusal(ram.len(), numbers.len(), marks.len(), s);
     if number != 0 {
         return Filled { number, at };
     }

@@ -10,6 +10,7 @@ use std::num::wrapping_add_u64;
 use who::standing::Standing;
 use who::standing::begin;
 use who::tests::who_refusal;
+use who::values::values_of;
 use words::settings::Settings;
 
 // One record more.
@@ -53,10 +54,15 @@ fn replay_all(ram: &mut [u16], s: Settings, address: u16, at: Standing, trace: &
 }
 
 // A part of a trace: RAM is replayed where it is lent, and the answer so far goes on. A refusal is the answer, and
-// changes nothing else.
+// changes nothing else; an answer that is a refusal already is handed back as it is, before anything is tested.
 pub fn go_on(ram: &mut [u16], s: Settings, address: u16, at: Standing, trace: &[u8]) -> Standing
     ensures { λ r. ⌜ replayOf (now (ram .exit)) r ≡ goneOn s address (heardIn (now (trace .entry))) (replayOf (now (ram .entry)) at) ⌝ }
 {
+    let so_far = at.who;
+    let told = values_of(so_far);
+    if told.number != 0 {
+        return at;
+    }
     let number = who_refusal(ram.len(), s, address);
     if number != 0 {
         let remembered = at.remembered;

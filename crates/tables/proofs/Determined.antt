@@ -4,6 +4,7 @@
 use mathlib.Core.Path.{refl}
 use Rattle.words.proofs.Settled.{determined, Settled}
 use Rattle.tables.proofs.table
+use Rattle.tables.proofs.tests
 
 pub number-at-settled : Settled 1 table.number_at.Kinds.ps table.number_at.Kinds.r table.number_at.Reads.Post
 number-at-settled κs a x y v w p q = (determined p q, refl)
@@ -17,3 +18,6 @@ entry-at-settled κs a x y v w p q = (determined p q, refl)
 pub mark-plan-settled : Settled 2 table.mark_plan.Kinds.ps table.mark_plan.Kinds.r table.mark_plan.Reads.Post
 mark-plan-settled κs a x y v w p q =
     (refl, λ i. (determined (p .0) (q .0) i, (determined (p .1) (q .1) i, v .1 .1)))
+
+pub fill-refusal-settled : Settled 0 tests.fill_refusal.Kinds.ps tests.fill_refusal.Kinds.r tests.fill_refusal.Reads.Post
+fill-refusal-settled κs a x y v w p q = (determined p q, refl)

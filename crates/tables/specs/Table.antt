@@ -4,9 +4,8 @@ use Prim.Native.Nat.{ℕ, _+_}
 use mathlib.Core.Bool.{cond}
 use mathlib.Core.List.{List, [], _∷_, _++_}
 use lib.ListN.{length, getD, replicate}
-use lib.Dec.{leb, eqb}
+use lib.Dec.{eqb}
 use Rattle.words.specs.declared.settings.Settings.{Settings}
-use Rattle.words.specs.Number.{addressBeyond}
 use Rattle.words.specs.Remembered.{nothingRemembered}
 use Rattle.memory.specs.State.{State}
 use Rattle.memory.specs.Map.{lookupPlace, stackPointerPlace}
@@ -24,14 +23,15 @@ use Rattle.origin.specs.declared.origin.Part.the-variants.{Data, Pointer, Stack
 use Rattle.origin.specs.declared.origin.Who.{Who}
 use Rattle.origin.specs.declared.origin.Who.the-variants.{Refused}
 use Rattle.tables.specs.declared.table.Filling.{Filling}
-use Rattle.who.specs.Tests.{replayRefusal}
 use Rattle.who.specs.Replay.{terminalOf}
 use Rattle.tables.specs.Mark.{markOf, entryOf}
+use Rattle.tables.specs.Tests.{fillRefusal, entryRefusal}
 
 -- what a table of numbers and one of marks say of an address
 unfoldable pub entryAt : List ℕ → List ℕ → ℕ → Who
 entryAt numbers marks a =
-    cond (leb (length numbers) a) (Refused addressBeyond) (entryOf (getD numbers a 0) (getD marks a 0))
+    cond (eqb (entryRefusal numbers marks a) 0) (entryOf (getD numbers a 0) (getD marks a 0))
+    (Refused (entryRefusal numbers marks a))
 
 -- the places of a plan's list of writes, in its order, with a word for what is written at each
 abbrev pub dataMarks : (Part → ℕ) → Deed → List Write
@@ -81,9 +81,13 @@ unfoldable pub fillAll : Settings → List Heard → Tables → Tables
 fillAll s [] t = t
 fillAll s (h ∷ hs) t = fillAll s hs (fillRecord s h t)
 
--- a part of a trace; a refusal changes nothing
+-- what refuses a part of a trace, or 0
+abbrev pub refusalOf : Settings → Tables → ℕ
+refusalOf s t = fillRefusal (length (t .ram)) (length (t .numbers)) (length (t .marks)) s
+
+-- a part of a trace; a refusal changes nothing, and so leaves no trace in what follows
 unfoldable pub filledWith : Settings → List Heard → Tables → Tables
-filledWith s hs t = cond (eqb (replayRefusal (length (t .ram)) s) 0) (fillAll s hs t) t
+filledWith s hs t = cond (eqb (refusalOf s t) 0) (fillAll s hs t) t
 
 -- blank tables beside an image, before the first record
 unfoldable pub blankTables : List ℕ → Tables

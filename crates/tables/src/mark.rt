@@ -1,11 +1,13 @@
-// A write's kind, place and cell in one word, and back again.
+// A write's kind, place and cell in one word, and back again; and which words are such marks.
 ghost use mathlib.Core.Path.{_≡_};
-ghost use Rattle.tables.specs.Mark.{markOf, partMarked, entryOf};
+ghost use Rattle.tables.specs.Mark.{markOf, partMarked, entryOf, placeFits, isMark, isEntry};
 use origin::origin::Origin;
 use origin::origin::Part;
 use origin::origin::Who;
 use who::values::part_kind;
 use who::values::part_place;
+use words::choose::both;
+use words::choose::either;
 
 // A write's kind, place and cell in one word.
 pub(crate) fn mark_of(cell: u16, part: Part) -> u16
@@ -46,4 +48,33 @@ pub(crate) fn entry_of(number: u64, mark: u16) -> Who
         part,
     };
     Who::Written(origin)
+}
+
+// The place that a write of each kind has.
+fn place_fits(kind: u16, place: u16) -> bool
+    ensures { λ r. ⌜ r ≡ placeFits kind place ⌝ }
+{
+    if kind == 1 {
+        return both(1 <= place, place <= 32);
+    }
+    if kind == 3 {
+        return both(1 <= place, place <= 4);
+    }
+    both(either(kind == 2, kind == 4), place == 0)
+}
+
+fn is_mark(mark: u16) -> bool
+    ensures { λ r. ⌜ r ≡ isMark mark ⌝ }
+{
+    both(mark % 128 < 96, place_fits(mark / 8192, mark / 128 % 64))
+}
+
+// Nothing at all, or the number of a record with the mark of a write.
+pub(crate) fn is_entry(number: u64, mark: u16) -> bool
+    ensures { λ r. ⌜ r ≡ isEntry number mark ⌝ }
+{
+    if number == 0 {
+        return mark == 0;
+    }
+    is_mark(mark)
 }

@@ -6,6 +6,7 @@ ghost use Rattle.tables.specs.Mark.{markOf};
 ghost use Rattle.tables.specs.Table.{entryAt, dataMarks, pointerMarks, stackMarks, markWrites};
 use crate::mark::entry_of;
 use crate::mark::mark_of;
+use crate::tests::entry_refusal;
 use decide::entry::Entry;
 use decide::plan::Plan;
 use deed::deed::Deed;
@@ -16,7 +17,6 @@ use memory::ram::word_at;
 use origin::origin::Part;
 use origin::origin::Who;
 use windows::window::place;
-use words::number::ADDRESS_BEYOND;
 use words::remembered::Remembered;
 use words::settings::Settings;
 
@@ -42,14 +42,16 @@ pub fn put_number(numbers: &mut [u64], at: usize, number: u64)
     }
 }
 
-// What filled tables say of an address.
+// What filled tables say of an address. Tables that no replay leaves are refused: where their lengths are no RAM's, with 1
+// for every address; where a number or a mark stands alone or the mark is none, with 5.
 pub fn entry_at(numbers: &[u64], marks: &[u16], address: u16) -> Who
     ensures { λ r. ⌜ r ≡ entryAt (now (numbers .entry)) (now (marks .entry)) address ⌝ }
 {
-    let a = address as usize;
-    if numbers.len() <= a {
-        return Who::Refused(ADDRESS_BEYOND);
+    let number = entry_refusal(numbers, marks, address);
+    if number != 0 {
+        return Who::Refused(number);
     }
+    let a = address as usize;
     entry_of(number_at(numbers, a), word_at(marks, a))
 }
 

@@ -36,9 +36,10 @@ use Rattle.origin.specs.Origin.{lastPlace, partAt, whoAt}
 use Rattle.who.specs.Next.{writesIn, whoNext}
 use Rattle.who.specs.Tests.{whoTests, whoRefusal}
 use Rattle.who.specs.Values.{valuesOf}
-use Rattle.who.specs.Replay.{Replay, replayOf, replayRecord, replay, beginning, refusedAt, goneOn, asked}
+use Rattle.who.specs.Replay.{Replay, replayOf, replayRecord, replay, beginning, refusedAt, asked}
 use Rattle.who.specs.Answered.{terminalWith, noneWrites, wordAt, Named, Answered}
 use Rattle.origin.proofs.Last.{none-avoids, last-word}
+use Rattle.who.proofs.Gone.{part-refused, part-replayed}
 use Rattle.who.proofs.Alike.{Alike, writes-made, plan-alike, writes-alike, record-alike, replay-alike}
 
 -- ---- the words of a list of writes
@@ -257,10 +258,15 @@ module _ (s : Settings) (a : ℕ) (hs : List Heard) (image : List ℕ) where
   unfolding beginning
   first-alike = record { ram = refl; remembered = refl; room = refl }
 
+  -- "as in the image" is no refusal
+  pub first-told : valuesOf (first .at .who) .number ≡ 0
+  unfolding beginning valuesOf
+  first-told = refl
+
   module _ (z : whoRefusal (length image) s a ≡ 0) where
     all-replayed : asked s a hs image ≡ replay s a hs first
-    unfolding asked goneOn
-    all-replayed = rw (eq-eqb (whoRefusal (length image) s a) 0 z)
+    unfolding asked
+    all-replayed = part-replayed s a hs first first-told z
 
     pub inside : a < length image
     unfolding whoRefusal
@@ -289,8 +295,8 @@ module _ (s : Settings) (a : ℕ) (hs : List Heard) (image : List ℕ) where
 
   asked-refused :
       (whoRefusal (length image) s a ≡ 0 → ⊥) → asked s a hs image ≡ refusedAt (whoRefusal (length image) s a) first
-  unfolding asked goneOn
-  asked-refused m = rw (ne-eqb (whoRefusal (length image) s a) 0 m)
+  unfolding asked
+  asked-refused m = part-refused s a hs first first-told m
 
   asked-number : valuesOf (asked s a hs image .at .who) .number ≡ whoRefusal (length image) s a
   unfolding valuesOf refusedAt
@@ -302,7 +308,6 @@ module _ (s : Settings) (a : ℕ) (hs : List Heard) (image : List ℕ) where
 
   -- "Who put this word here": the answer says all that request 10 asks
   pub who-put-this-here : Answered s a hs image
-  unfolding asked goneOn
   who-put-this-here =
       record {
         refused = asked-refused;

@@ -19,8 +19,5 @@ values-of-settled κs a x y v w p q = (determined p q, refl)
 pub begin-settled : Settled 0 standing.begin.Kinds.ps standing.begin.Kinds.r standing.begin.Reads.Post
 begin-settled κs a x y v w p q = (determined p q, refl)
 
-pub replay-refusal-settled : Settled 0 tests.replay_refusal.Kinds.ps tests.replay_refusal.Kinds.r tests.replay_refusal.Reads.Post
-replay-refusal-settled κs a x y v w p q = (determined p q, refl)
-
 pub who-refusal-settled : Settled 0 tests.who_refusal.Kinds.ps tests.who_refusal.Kinds.r tests.who_refusal.Reads.Post
 who-refusal-settled κs a x y v w p q = (determined p q, refl)

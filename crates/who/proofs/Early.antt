@@ -4,17 +4,10 @@ use mathlib.Core.Path.{_≡_, refl, sym, _∙_}
 use mathlib.Core.List.{List, [], _∷_}
 use lib.Dec.{leb}
 use Rattle.words.specs.declared.settings.Settings.{Settings}
-use Rattle.words.specs.Number.{ramLength, badSettings, addressBeyond}
+use Rattle.words.specs.Number.{addressBeyond}
 use Rattle.words.specs.Refusal.{_when_, firstOf}
-use Rattle.words.proofs.Refusals.{accepted, first-stops, first-passes}
+use Rattle.words.proofs.Refusals.{first-stops, first-passes}
 use Rattle.who.specs.Tests.{replayTests, replayRefusal, whoTests, whoRefusal}
-
--- the question's tests are those and one more
-pub asked-replay : (words : ℕ) (s : Settings) (a : ℕ) → whoRefusal words s a ≡ 0 → replayRefusal words s ≡ 0
-unfolding replayRefusal whoRefusal firstOf
-asked-replay words s a e =
-    let t = accepted (whoTests words s a) refl e in
-    rw (t ramLength, t badSettings)
 
 -- tested in turn
 pub who-stops : (words : ℕ) (s : Settings) (a n : ℕ) → n ≡ replayRefusal words s → (n ≡ 0 → ⊥) → n ≡ whoRefusal words s a

@@ -2,11 +2,10 @@
 use Prim.Native.Nat.{ℕ, zero, suc, _+_, _*_, _/_, _%_, _≤_}
 use native.Mathlib.Nat.{add-zero, add-suc}
 use native.Mathlib.Omega.{arith}
-use mathlib.Core.Path.{_≡_, refl, _∙_}
+use mathlib.Core.Path.{_≡_, refl, sym, _∙_}
 use mathlib.Core.Logic.{⊎-elim}
 use mathlib.Core.List.{List, [], _∷_, _++_, append-nil, append-assoc}
 use lib.ListN.{length}
-use borrow.Author.Tests.{eq-eqb, ne-eqb}
 use Rattle.words.specs.declared.settings.Settings.{Settings}
 use Rattle.words.proofs.Basics.{eq-or-ne}
 use Rattle.memory.proofs.Writes.{length-apply}
@@ -14,9 +13,11 @@ use Rattle.message.specs.Heard.{Heard}
 use Rattle.trace.specs.Output.{refilled, WholeRefills}
 use Rattle.trace.proofs.Chunks.{record-first, record-second, whole-append}
 use Rattle.who.specs.Tests.{whoRefusal}
+use Rattle.who.specs.Values.{valuesOf}
 use Rattle.who.specs.Replay.{heardTo, heardIn, Replay, terminalIn, replayRecord, replay, refusedAt, goneOn, goneThrough}
 use Rattle.who.proofs.Turns.{replay-append}
 use Rattle.who.proofs.Alike.{writes-made}
+use Rattle.who.proofs.Gone.{still-told, handed-back, part-refused, part-replayed, refused-number}
 
 -- ---- the records of a trace
 
@@ -48,14 +49,26 @@ replay-length s a (h ∷ hs) w = replay-length s a hs (replayRecord s a h w) ∙
 -- two lists of records one after the other
 gone-append :
     (s : Settings) (a : ℕ) (hs ys : List Heard) (w : Replay) → goneOn s a (hs ++ ys) w ≡ goneOn s a ys (goneOn s a hs w)
-unfolding goneOn refusedAt
 gone-append s a hs ys w =
+    let before = valuesOf (w .at .who) .number in
     let n = whoRefusal (length (w .ram)) s a in
     ⊎-elim
+    (λ (b : before ≡ 0).
+    ⊎-elim
     (λ (z : n ≡ 0).
-    rw (eq-eqb n 0 z, replay-length s a hs w, eq-eqb n 0 z) (replay-append s a hs ys w))
-    (λ (m : n ≡ 0 → ⊥). rw (ne-eqb n 0 m, ne-eqb n 0 m))
-    (eq-or-ne n 0)
+    let r = replay s a hs w in
+    let first = part-replayed s a hs w b z in
+    let long : whoRefusal (length (r .ram)) s a ≡ 0 = rw (replay-length s a hs w) z in
+    let second = part-replayed s a ys r (still-told s a hs w b) long in
+    rw (first, second, part-replayed s a (hs ++ ys) w b z) (replay-append s a hs ys w))
+    (λ (m : n ≡ 0 → ⊥).
+    let told = refused-number n w in
+    let second = handed-back s a ys (refusedAt n w) (λ z. m (sym told ∙ z)) in
+    rw (part-refused s a hs w b m, second, part-refused s a (hs ++ ys) w b m))
+    (eq-or-ne n 0))
+    (λ (m : before ≡ 0 → ⊥).
+    rw (handed-back s a hs w m, handed-back s a ys w m, handed-back s a (hs ++ ys) w m))
+    (eq-or-ne before 0)
 
 -- two parts of a trace
 pub gone-on-parts :

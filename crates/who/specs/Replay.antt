@@ -15,6 +15,7 @@ use Rattle.origin.specs.declared.origin.Who.the-variants.{Refused, AsInImage}
 use Rattle.who.specs.declared.standing.Standing.{Standing}
 use Rattle.who.specs.Tests.{whoRefusal}
 use Rattle.who.specs.Next.{whoNext}
+use Rattle.who.specs.Values.{valuesOf}
 
 -- the first n records of a trace, as they are heard
 unfoldable pub heardTo : List ℕ → ℕ → List Heard
@@ -67,10 +68,12 @@ refusedAt number w =
       at = record { remembered = w .at .remembered; number = w .at .number; who = Refused number };
     }
 
--- a part of a trace
+-- a part of a trace: an answer that is a refusal already stays the answer, whatever is given, and all else is as it was
 unfoldable pub goneOn : Settings → ℕ → List Heard → Replay → Replay
 goneOn s a hs w =
-    cond (eqb (whoRefusal (length (w .ram)) s a) 0) (replay s a hs w) (refusedAt (whoRefusal (length (w .ram)) s a) w)
+    cond (eqb (valuesOf (w .at .who) .number) 0)
+    (cond (eqb (whoRefusal (length (w .ram)) s a) 0) (replay s a hs w) (refusedAt (whoRefusal (length (w .ram)) s a) w))
+    w
 
 -- a trace that comes in refills of whole records, and then a rest
 unfoldable pub goneThrough : Settings → ℕ → List (List ℕ) → List ℕ → Replay → Replay

@@ -9,7 +9,7 @@ use words::settings::Settings;
 use words::settings::settings_refused;
 
 // 1, then 3.
-pub fn replay_refusal(words: usize, s: Settings) -> u16
+fn replay_refusal(words: usize, s: Settings) -> u16
     ensures { λ r. ⌜ r ≡ replayRefusal words s ⌝ }
 {
     if ram_refused(words) {

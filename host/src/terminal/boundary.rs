@@ -169,7 +169,7 @@ fn put_or_zero<T: Copy + Default, const LENGTH: usize>(
 }
 
 /// Puts items at the front of a slice, as far as it goes.
-fn put<T: Copy>(slice: &mut [T], items: &[T]) {
+pub(super) fn put<T: Copy>(slice: &mut [T], items: &[T]) {
     let room = slice.len().min(items.len());
     slice[..room].copy_from_slice(&items[..room]);
 }
@@ -184,7 +184,7 @@ fn front<const LENGTH: usize>(words: &[u16]) -> [u16; LENGTH] {
     front
 }
 
-fn settings_of(words: &[u16]) -> Settings {
+pub(super) fn settings_of(words: &[u16]) -> Settings {
     let words: [u16; SETTINGS_WORDS] = front(words);
     Settings {
         address: words[0],

@@ -5,6 +5,7 @@ mod broadcast;
 mod labels;
 mod page;
 mod soundness;
+mod tables;
 
 use plain_terminal::compare::case::{Case, Message, Request, State};
 use plain_terminal::compare::coverage::Coverage;

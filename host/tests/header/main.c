@@ -375,20 +375,76 @@ static void entry_is(uint16_t address, uint64_t number, uint16_t kind, uint16_t 
     assert(last[1] == UNTOUCHED && part[SOLKVERVA_PART_WORDS] == UNTOUCHED);
 }
 
-/* The example twice: the second message writes from 0402 on. */
+static void entry_refused(size_t numbers_length, size_t marks_words, uint16_t address, uint16_t number)
+{
+    last[0] = part[0] = part[1] = part[2] = UNTOUCHED;
+    assert(solkverva_who_entry(numbers, numbers_length, marks, marks_words, address, last, 2, part,
+                               SOLKVERVA_PART_WORDS + 1) == number);
+    assert(last[0] == 0 && part[0] == 0 && part[1] == 0 && part[2] == 0);
+    assert(last[1] == UNTOUCHED && part[SOLKVERVA_PART_WORDS] == UNTOUCHED);
+}
+
+/* A part whose tables do not fit the RAM, or whose settings are refused: nothing changes. */
+static void fill_refused(size_t numbers_length, size_t marks_words, uint16_t stack_size, uint16_t number)
+{
+    static uint16_t ram_before[SOLKVERVA_RAM_WORDS], marks_before[SOLKVERVA_RAM_WORDS];
+    static uint64_t numbers_before[SOLKVERVA_RAM_WORDS];
+    const uint16_t command = remembered[0], status = remembered[1], size = settings[2];
+    const uint64_t records_before = records;
+
+    memcpy(ram_before, ram, sizeof ram_before);
+    memcpy(marks_before, marks, sizeof marks_before);
+    memcpy(numbers_before, numbers, sizeof numbers_before);
+    settings[2] = stack_size;
+    assert(solkverva_who_fill(ram, SOLKVERVA_RAM_WORDS, numbers, numbers_length, marks, marks_words, settings,
+                              SOLKVERVA_SETTINGS_WORDS, remembered, REMEMBERED, &records, 1, bytes, sizeof bytes) ==
+           number);
+    settings[2] = size;
+    assert(memcmp(ram_before, ram, sizeof ram_before) == 0 && memcmp(marks_before, marks, sizeof marks_before) == 0);
+    assert(memcmp(numbers_before, numbers, sizeof numbers_before) == 0 && records == records_before);
+    assert(remembered[0] == command && remembered[1] == status);
+}
+
+/* Tables that are short where an entry is read, and entries that no replay leaves. */
+static void tables_that_do_not_fit(void)
+{
+    const uint16_t mark = marks[0x047F];
+
+    entry_refused(SOLKVERVA_RAM_WORDS, 0x047F, 0x047F, SOLKVERVA_RAM_LENGTH);
+    entry_refused(SOLKVERVA_RAM_WORDS, 0, 0, SOLKVERVA_RAM_LENGTH);
+    entry_refused(SOLKVERVA_RAM_WORDS - 1, SOLKVERVA_RAM_WORDS, 0x047F, SOLKVERVA_RAM_LENGTH);
+    entry_refused(SOLKVERVA_RAM_WORDS - 1, SOLKVERVA_RAM_WORDS - 1, 0x047F, SOLKVERVA_RAM_LENGTH);
+    entry_refused(0, 0, 0, SOLKVERVA_RAM_LENGTH);
+    marks[0x047F] = 0;
+    entry_refused(SOLKVERVA_RAM_WORDS, SOLKVERVA_RAM_WORDS, 0x047F, SOLKVERVA_RECORD_LAYOUT);
+    marks[0x047F] = mark;
+    marks[0x0500] = mark;
+    entry_refused(SOLKVERVA_RAM_WORDS, SOLKVERVA_RAM_WORDS, 0x0500, SOLKVERVA_RECORD_LAYOUT);
+    marks[0x0500] = 0;
+    entry_is(0x047F, 1, 1, 3, 2);
+    entry_is(0x0500, 0, 0, 0, 0);
+}
+
+/* The example twice: the second message writes from 0402 on. The refused parts before, between and after count for
+ * nothing. */
 static void who_put_a_word_there(void)
 {
     start();
     assert(fill(SOLKVERVA_RAM_WORDS - 1) == SOLKVERVA_RAM_LENGTH && records == 0);
-    assert(fill(SOLKVERVA_RAM_WORDS) == SOLKVERVA_DONE && fill(SOLKVERVA_RAM_WORDS) == SOLKVERVA_DONE && records == 2);
+    fill_refused(SOLKVERVA_RAM_WORDS, SOLKVERVA_RAM_WORDS - 1, 256, SOLKVERVA_RAM_LENGTH);
+    assert(fill(SOLKVERVA_RAM_WORDS) == SOLKVERVA_DONE && records == 1);
+    fill_refused(SOLKVERVA_RAM_WORDS, SOLKVERVA_RAM_WORDS, 300, SOLKVERVA_BAD_SETTINGS);
+    fill_refused(SOLKVERVA_RAM_WORDS - 1, SOLKVERVA_RAM_WORDS, 300, SOLKVERVA_RAM_LENGTH);
+    assert(fill(SOLKVERVA_RAM_WORDS) == SOLKVERVA_DONE && records == 2);
+    fill_refused(0, 0, 256, SOLKVERVA_RAM_LENGTH);
     entry_is(0x047F, 1, 1, 3, 2);
     entry_is(0x0402, 2, 1, 3, 1);
     entry_is(0x0143, 2, 2, 3, 0);
     entry_is(0x0003, 1, 3, 3, 4);
     entry_is(0x0100, 2, 4, 3, 0);
     entry_is(0x0500, 0, 0, 0, 0);
-    assert(solkverva_who_entry(numbers, SOLKVERVA_RAM_WORDS, marks, SOLKVERVA_RAM_WORDS, SOLKVERVA_RAM_WORDS, last, 2,
-                               part, SOLKVERVA_PART_WORDS + 1) == SOLKVERVA_ADDRESS_BEYOND);
+    entry_refused(SOLKVERVA_RAM_WORDS, SOLKVERVA_RAM_WORDS, SOLKVERVA_RAM_WORDS, SOLKVERVA_ADDRESS_BEYOND);
+    tables_that_do_not_fit();
 
     start();
     assert(solkverva_who(ram, SOLKVERVA_RAM_WORDS, settings, SOLKVERVA_SETTINGS_WORDS, 0x0400, bytes, sizeof bytes, last,
@@ -415,9 +471,12 @@ static void nothing_lent(void)
     assert(solkverva_describe_cell(ram, SOLKVERVA_RAM_WORDS, settings, 4, 3, NULL, 0) == SOLKVERVA_DONE);
     assert(solkverva_describe_stack(ram, SOLKVERVA_RAM_WORDS, settings, 4, NULL, 0) == SOLKVERVA_DONE);
     assert(solkverva_who_fill(ram, SOLKVERVA_RAM_WORDS, NULL, 0, NULL, 0, settings, 4, NULL, 0, NULL, 0, bytes,
-                              sizeof bytes) == SOLKVERVA_DONE);
+                              sizeof bytes) == SOLKVERVA_RAM_LENGTH);
+    assert(ram[0x0100] == 8);
+    assert(solkverva_who_fill(ram, SOLKVERVA_RAM_WORDS, numbers, SOLKVERVA_RAM_WORDS, marks, SOLKVERVA_RAM_WORDS,
+                              settings, 4, NULL, 0, NULL, 0, bytes, sizeof bytes) == SOLKVERVA_DONE);
     assert(ram[0x0100] == 12);
-    assert(solkverva_who_entry(NULL, 0, NULL, 0, 0, NULL, 0, NULL, 0) == SOLKVERVA_ADDRESS_BEYOND);
+    assert(solkverva_who_entry(NULL, 0, NULL, 0, 0, NULL, 0, NULL, 0) == SOLKVERVA_RAM_LENGTH);
     assert(solkverva_who(ram, SOLKVERVA_RAM_WORDS, settings, 4, 0, NULL, 0, NULL, 0, NULL, 0) == SOLKVERVA_DONE);
     assert(solkverva_read(NULL, 0, NULL, 0) == SOLKVERVA_RECORD_LENGTH);
     assert(solkverva_read(bytes, sizeof bytes, NULL, 0) == SOLKVERVA_DONE);

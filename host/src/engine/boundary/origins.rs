@@ -81,7 +81,8 @@ pub fn who_fill(
     }
 }
 
-/// What filled tables say of an address: 0 or 12, the record and the part.
+/// What filled tables say of an address: 0, 1, 5 or 12, the record and the
+/// part.
 #[inline]
 pub fn who_entry(
     numbers: &[u64],

@@ -6,12 +6,12 @@ use Rattle.tables.specs.Table.{filledWith}
 use Rattle.replay.proofs.fill.fill.Statement.{statement}
 use Rattle.replay.proofs.fill.fill.Tie as tie
 
-replay-refusal-requires : tie.Need-replay-refusal-requires
-replay-refusal-requires c κs = search needs
+fill-refusal-requires : tie.Need-fill-refusal-requires
+fill-refusal-requires c κs = search needs
 
 returns : tie.Need-returns
 unfolding filledWith
-returns c = let e = c .before .replay-refusal .ensures in (e, rw (← e, ne-eqb _ _ (c .if1 .taken)))
+returns c = let e = c .before .fill-refusal .ensures in (e, rw (← e, ne-eqb _ _ (c .if1 .taken)))
 
 fill-all-requires : tie.Need-fill-all-requires
 fill-all-requires c κs = search needs
@@ -29,14 +29,14 @@ returns-2 : tie.Need-returns-2
 unfolding filledWith
 returns-2 c = let k = c .before .before .before .before .before .before in
     let passed = k .before .before .before .before in
-    let e = passed .before .replay-refusal .ensures in
+    let e = passed .before .fill-refusal .ensures in
     (sym (passed .if1 .left) ∙ e, rw (← e, eq-eqb _ _ (passed .if1 .left)) (k .fill-all .ensures))
 
 pub fill-spec : {M : Type 1} → statement M
 fill-spec =
     tie.close
     (tie.spec
-    replay-refusal-requires
+    fill-refusal-requires
     returns
     fill-all-requires
     same-length
