@@ -49,7 +49,7 @@
  *   where the word is as in the image); the cell of its message; the place, counted from 1, of a data word in its
  *   message or of a stack word in its descriptor, else 0.
  *
- * A cell's number is its subaddress, with 32 added to transmit and 64 for broadcast.
+ * A cell's number is its subaddress, with 32 added for transmit and 64 for broadcast.
  *
  * RT-to-RT transfers: a record with SOLKVERVA_TRANSFER is a message that another terminal sent to this one. Its bytes
  * 2-3, the last word of a value, hold the command that the other had; any word may stand there, it is not judged and

@@ -1,10 +1,10 @@
 -- Where a walk stands after some records.
-use Prim.Native.Nat.{ℕ, zero, suc, _+_, _*_, _%_, _^_, _<_, _≤_}
+use Prim.Native.Nat.{ℕ, zero, suc, _+_, _-_, _*_, _%_, _^_, _<_, _≤_}
 use native.Mathlib.Numerals.{add-one}
 use native.Mathlib.Omega.{arith}
 use mathlib.Core.Path.{_≡_, refl}
 use mathlib.Core.List.{List}
-use lib.ListN.{length, length-append}
+use lib.ListN.{length, take, drop, length-append}
 use Rattle.words.specs.declared.settings.Settings.{Settings}
 use Rattle.words.specs.declared.remembered.Remembered.{Remembered}
 use Rattle.memory.specs.State.{State, stateOf}
@@ -67,12 +67,18 @@ unfolding walkTo
 stands-none s trace ram reply room before number h =
     record { state = refl; text = put-none h (omega arith); number = refl }
 
+-- what lies between the places of a record and of the next is that record
+pub record-between : (trace : List ℕ) (n : ℕ) → take (80 * n + 80 - 80 * n) (drop (80 * n) trace) ≡ recordAt trace n
+record-between trace n = let long : 80 * n + 80 - 80 * n ≡ 80 = omega arith in rw long
+
+-- one record more, whatever bytes were handed on, where they are that record
 pub stands-more :
-    (s : Settings) (trace : List ℕ) (w : Walk) (n : ℕ) {room ram reply out ram₁ reply₁ out₁ : List ℕ} {walked walked₁ : Walked} →
+    (s : Settings) (trace : List ℕ) (w : Walk) (n : ℕ) {bytes room ram reply out ram₁ reply₁ out₁ : List ℕ} {walked walked₁ : Walked} →
     Stands (walkTo s trace w n) room ram reply out walked →
-    Leaves (walkRecord s (recordAt trace n) (walkStart ram reply (walked .remembered) (walked .number))) out (walked .used) ram₁ reply₁ out₁ walked₁ →
+    Leaves (walkRecord s bytes (walkStart ram reply (walked .remembered) (walked .number))) out (walked .used) ram₁ reply₁ out₁ walked₁ →
+    bytes ≡ recordAt trace n →
     Stands (walkTo s trace w (n + 1)) room ram₁ reply₁ out₁ walked₁
-stands-more s trace w n a b = rw walk-more (record-stands _ _ _ _ _ _ _ _ _ _ _ _ a b)
+stands-more s trace w n a b e = rw (walk-more, ← e) (record-stands _ _ _ _ _ _ _ _ _ _ _ _ a b)
 
 -- a trace that fits a slice has a text that can be counted
 pub stands-text :

@@ -1,5 +1,8 @@
 //! Who put this word here.
 
+use plain_terminal::compare::origins::compare;
+use plain_terminal::compare::origins::coverage::Coverage;
+use plain_terminal::compare::origins::sides::{plain, ERRORS};
 use plain_terminal::terminal::trace::{image_words, IMAGE_BYTES};
 use plain_terminal::terminal::who::{who, Origin, Walk};
 use plain_terminal::terminal::writes::Part;
@@ -115,5 +118,15 @@ fn random_traces() {
             // What nobody wrote is as it was.
             assert_eq!(written, terminal.ram);
         }
+    }
+}
+
+/// Each error that can be planted in this side shows on random traces.
+#[test]
+fn planted_errors_of_origins_show() {
+    for (name, wrong) in ERRORS {
+        let mut coverage = Coverage::default();
+        let found = compare(plain, wrong, 1, 600, &mut coverage);
+        assert!(found.is_some(), "{name} does not show");
     }
 }

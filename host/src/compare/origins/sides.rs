@@ -2,6 +2,7 @@
 
 use super::{addresses, Asked, Told};
 use crate::terminal::records::RECORD_BYTES;
+use crate::terminal::who::Walk;
 use crate::terminal::{read_record, Record};
 
 pub type Side = fn(&Asked) -> Told;
@@ -59,8 +60,29 @@ fn refused(asked: &Asked, number: u16, singles: Vec<super::Answer>) -> Told {
     }
 }
 
+/// This package's answers, but a record that writes the word that stands there
+/// already counts as one that writes nothing there.
+fn equal_words_unheard(asked: &Asked) -> Told {
+    let mut told = plain(asked);
+    if let Ok(mut walk) = Walk::new(&asked.image, &asked.settings) {
+        told.every = addresses().map(|address| walk.who(address)).collect();
+        for record in asked.records.chunks_exact(RECORD_BYTES) {
+            let before = walk.ram().to_vec();
+            walk.record(record);
+            for (address, answer) in addresses().zip(&mut told.every) {
+                let place = usize::from(address);
+                if walk.ram().get(place) != before.get(place) {
+                    *answer = walk.who(address);
+                }
+            }
+        }
+    }
+    told
+}
+
 /// Errors by name: this package's answers, each wrong in one way.
-pub const ERRORS: [(&str, Side); 4] = [
+pub const ERRORS: [(&str, Side); 5] = [
+    ("equal-words-unheard", equal_words_unheard),
     ("last-unheard", |asked| {
         let records = asked.records.len() / RECORD_BYTES;
         plain(&asked.first(records.saturating_sub(1)))

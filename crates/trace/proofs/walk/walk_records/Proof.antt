@@ -6,7 +6,7 @@ use lib.ListN.{length}
 use denote.Ref.{now}
 use borrow.Author.Needs.{needs}
 use Rattle.trace.specs.Walk.{walkTo, walkStart, walkAll}
-use Rattle.trace.proofs.Walks.{Stands, stands-none, stands-more, stands-text, stands-back}
+use Rattle.trace.proofs.Walks.{Stands, stands-none, record-between, stands-more, stands-text, stands-back}
 use Rattle.trace.proofs.walk.walk_records.Statement.{statement}
 use Rattle.trace.proofs.walk.walk_records.Tie as tie
 
@@ -53,12 +53,13 @@ loop-again : tie.Need-loop-again Inv-loop μ-loop
 loop-again c =
     let replied = c .before .before .before in
     let stored = replied .before .before in
-    let l = stored .before .before .before .before .before .before .before .loop in
-    let e : 80 * l .i + 80 - 80 * l .i ≡ 80 = omega arith in
+    let turn = stored .before .before .before .before .before .before .before in
+    let l = turn .loop in
+    let trace = now (turn .before .before .before .before .before .before .args .trace) in
     let n = l .inv .1 .1 in (
       omega arith,
       (
-        stands-more _ _ _ _ (l .inv .1 .0) (rw e at (stored .before .walk-one .ensures)),
+        stands-more _ _ _ _ (l .inv .1 .0) (stored .before .walk-one .ensures) (record-between trace (l .i)),
         (stored .ram .given ∙ n .0, (replied .reply .given ∙ n .1 .0, c .before .out .given ∙ n .1 .1)),
       ),
     )
