@@ -4,7 +4,7 @@
 -- To believe: what `Answered` and `Meets` name; the tests of each entry point (`testsFor`, `recordTests`, `writerTests`,
 -- `groundTests`, `areaTests`, `cellTests`, `givenTests`, `whoTests`, `partTests`, `fillTests`, `entryTests`);
 -- `LowestUnsound`; what each gives back of a refusal (`notRead`, `zeroBytes`, `cellAnswer`, `areaAnswer`, `noCell`,
--- `noStack`, and `valuesOf` for the number of an answer to "who"); `settingsFrom`, `valueFrom`, `stateIn` and
+-- `noStack`, and `valuesOf` for the number of an answer to who put a word there); `settingsFrom`, `valueFrom`, `stateIn` and
 -- `lentTablesOf`, what lent words say.
 use Prim.Native.Nat.{ℕ, _+_, _/_, _%_, _≤_, _<_}
 use mathlib.Core.Path.{_≡_}

@@ -4,10 +4,6 @@
 use Rattle.words.proofs.Settled.{determined, Settled}
 use Rattle.replay.proofs.fill
 use Rattle.replay.proofs.question
-use Rattle.replay.proofs.taken
-
-pub take-record-settled : Settled 2 taken.take_record.Kinds.ps taken.take_record.Kinds.r taken.take_record.Reads.Post
-take-record-settled κs a x y v w p q = (determined (p .0) (q .0), λ i. (determined (p .1) (q .1) i, v .1))
 
 pub go-on-settled : Settled 2 question.go_on.Kinds.ps question.go_on.Kinds.r question.go_on.Reads.Post
 go-on-settled κs a x y v w p q =

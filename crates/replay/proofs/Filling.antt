@@ -14,41 +14,41 @@ use Rattle.message.specs.Tests.{refusalFor}
 use Rattle.message.specs.Message.{carriedOut, step}
 use Rattle.message.proofs.Refusals.{refused-state, accepted-state}
 use Rattle.trace.specs.Walk.{recordAt, nextNumber}
-use Rattle.replay.specs.declared.taken.Taken.{Taken}
-use Rattle.replay.specs.declared.taken.Taken.the-variants.{Passed, Carried}
-use Rattle.replay.specs.Taken.{takenOf}
+use Rattle.message.specs.declared.perform.Performed.{Performed}
+use Rattle.message.specs.declared.perform.Performed.the-variants.{Refused, Done}
+use Rattle.message.specs.Performed.{performedOf}
 use Rattle.who.specs.Replay.{heardTo}
 use Rattle.tables.specs.Mark.{markOf}
 use Rattle.tables.proofs.Parts.{fill-append}
 use Rattle.tables.specs.Table.{markWrites, marksIn, Tables, tablesOf, terminalAt, fillRecord, fillAll}
-use Rattle.replay.proofs.Taking.{taken-passed, taken-carried}
+use Rattle.replay.proofs.Taking.{taken-refused, taken-done}
 
-module _ (s : Settings) (h : Heard) (t : Tables) (k : Taken) (e : k ≡ takenOf s h (terminalAt t)) where
+module _ (s : Settings) (h : Heard) (t : Tables) (k : Performed) (e : k ≡ performedOf s h (terminalAt t)) where
   abbrev x : State
   x = terminalAt t
 
-  pub fill-passed :
-      (m : List ℕ) (n : ℕ) →
-      k ≡ Passed →
+  pub fill-refused :
+      (number : ℕ) (m : List ℕ) (n : ℕ) →
+      k ≡ Refused number →
       m ≡ step s h x .ram →
       n ≡ nextNumber (t .at .number) →
       tablesOf m (t .numbers) (t .marks) (record { remembered = t .at .remembered; number = n }) ≡ fillRecord s h t
   unfolding fillRecord marksIn applyWrites
-  fill-passed m n told left counted =
-      let f = taken-passed s h x (sym e ∙ told) in
+  fill-refused number m n told left counted =
+      let f = taken-refused s h x number (sym e ∙ told) in
       rw (left, counted, refused-state s h x f, ne-eqb (refusalFor s h x) 0 f)
 
-  pub fill-carried :
+  pub fill-done :
       (p : Plan) (r : Remembered) (m numbers marks : List ℕ) (n : ℕ) →
-      k ≡ Carried p r →
+      k ≡ Done p r →
       m ≡ step s h x .ram →
       n ≡ nextNumber (t .at .number) →
       numbers ≡ applyWrites (markWrites (λ part. n) s p) (t .numbers) →
       marks ≡ applyWrites (markWrites (markOf (p .deed .cell)) s p) (t .marks) →
       tablesOf m numbers marks (record { remembered = r; number = n }) ≡ fillRecord s h t
   unfolding fillRecord marksIn carriedOut
-  fill-carried p r m numbers marks n told left counted numbered marked =
-      let f = taken-carried s h x p r (sym e ∙ told) in
+  fill-done p r m numbers marks n told left counted numbered marked =
+      let f = taken-done s h x p r (sym e ∙ told) in
       rw (
         left,
         numbered,
@@ -56,8 +56,8 @@ module _ (s : Settings) (h : Heard) (t : Tables) (k : Taken) (e : k ≡ takenOf 
         counted,
         f .plan,
         f .remembered,
-        accepted-state s h x (f .number),
-        eq-eqb (refusalFor s h x) 0 (f .number),
+        accepted-state s h x (f .none),
+        eq-eqb (refusalFor s h x) 0 (f .none),
       )
 
 -- one record more of a trace

@@ -20,16 +20,16 @@ use Rattle.message.specs.Message.{planFor, carriedOut, step}
 use Rattle.message.proofs.Refusals.{refused-state, accepted-state}
 use Rattle.message.proofs.Step.{target-sized}
 use Rattle.trace.specs.Walk.{nextNumber}
-use Rattle.replay.specs.declared.taken.Taken.{Taken}
-use Rattle.replay.specs.declared.taken.Taken.the-variants.{Passed, Carried}
+use Rattle.message.specs.declared.perform.Performed.{Performed}
+use Rattle.message.specs.declared.perform.Performed.the-variants.{Refused, Done}
+use Rattle.message.specs.Performed.{performedOf}
 use Rattle.origin.specs.declared.origin.Who.{Who}
-use Rattle.replay.specs.Taken.{takenOf}
 use Rattle.origin.specs.Origin.{lastPlace, whoAt}
 use Rattle.who.specs.Next.{writesIn, whoNext}
 use Rattle.origin.specs.Placed.{whoWrote}
 use Rattle.who.specs.Replay.{Replay, replayOf, terminalIn, replayRecord}
 use Rattle.origin.proofs.Placed.{placed}
-use Rattle.replay.proofs.Taking.{taken-passed, taken-carried}
+use Rattle.replay.proofs.Taking.{taken-refused, taken-done}
 
 -- every plan's window has the pointer inside and room for its words
 deed-room :
@@ -51,39 +51,39 @@ module _ (s : Settings) (ram : List ℕ) (remembered : Remembered) (v : Record) 
   unfolding planOf planWith
   plan-room = deed-room s ram v
 
-module _ (s : Settings) (a : ℕ) (h : Heard) (w : Replay) (t : Taken) (e : t ≡ takenOf s h (terminalIn w)) where
+module _ (s : Settings) (a : ℕ) (h : Heard) (w : Replay) (t : Performed) (e : t ≡ performedOf s h (terminalIn w)) where
   abbrev x : State
   x = terminalIn w
 
-  pub replay-passed :
-      (m : List ℕ) (n : ℕ) →
-      t ≡ Passed →
+  pub replay-refused :
+      (number : ℕ) (m : List ℕ) (n : ℕ) →
+      t ≡ Refused number →
       m ≡ step s h x .ram →
       n ≡ nextNumber (w .at .number) →
       replayOf m (record { remembered = w .at .remembered; number = n; who = w .at .who }) ≡ replayRecord s a h w
   unfolding replayRecord whoNext whoAt writesIn lastPlace
-  replay-passed m n told left counted =
-      let f = taken-passed s h x (sym e ∙ told) in
+  replay-refused number m n told left counted =
+      let f = taken-refused s h x number (sym e ∙ told) in
       rw (left, counted, refused-state s h x f, ne-eqb (refusalFor s h x) 0 f)
 
-  module _ (p : Plan) (r : Remembered) (told : t ≡ Carried p r) where
-    pub replay-carried :
+  module _ (p : Plan) (r : Remembered) (told : t ≡ Done p r) where
+    pub replay-done :
         (m : List ℕ) (n : ℕ) (who : Who) →
         m ≡ step s h x .ram →
         n ≡ nextNumber (w .at .number) →
         who ≡ whoWrote s p a n (w .at .who) →
         replayOf m (record { remembered = r; number = n; who = who }) ≡ replayRecord s a h w
     unfolding replayRecord whoNext writesIn carriedOut
-    replay-carried m n who left counted answered =
-        let k = taken-carried s h x p r (sym e ∙ told) in
+    replay-done m n who left counted answered =
+        let k = taken-done s h x p r (sym e ∙ told) in
         rw (
           left,
           answered,
           counted,
           k .plan,
           k .remembered,
-          accepted-state s h x (k .number),
-          eq-eqb (refusalFor s h x) 0 (k .number),
+          accepted-state s h x (k .none),
+          eq-eqb (refusalFor s h x) 0 (k .none),
           placed s (planFor s (h .value) x) (h .value) a (plan-offset s (x .ram) (x .remembered) (h .value))
               (plan-room s (x .ram) (x .remembered) (h .value))
               (nextNumber (w .at .number))

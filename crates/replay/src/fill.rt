@@ -3,8 +3,8 @@ ghost use mathlib.Core.Path.{_≡_};
 ghost use Rattle.message.specs.Heard.{heardBytes};
 ghost use Rattle.who.specs.Replay.{heardIn};
 ghost use Rattle.tables.specs.Table.{tablesOf, fillRecord, fillAll, refusalOf, filledWith};
-use crate::taken::Taken;
 use crate::taken::take_record;
+use message::perform::Performed;
 use std::num::wrapping_add_u64;
 use tables::table::Filling;
 use tables::table::mark_plan;
@@ -32,11 +32,11 @@ fn fill_record(
     let number = wrapping_add_u64(at.number, 1);
     let taken = take_record(ram, s, before, bytes);
     match taken {
-        Taken::Passed => Filling {
+        Performed::Refused(_) => Filling {
             remembered: before,
             number,
         },
-        Taken::Carried(plan, remembered) => {
+        Performed::Done(plan, remembered) => {
             mark_plan(numbers, marks, s, plan, number);
             Filling { remembered, number }
         }

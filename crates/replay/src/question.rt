@@ -2,8 +2,8 @@
 ghost use mathlib.Core.Path.{_≡_};
 ghost use Rattle.message.specs.Heard.{heardBytes};
 ghost use Rattle.who.specs.Replay.{heardIn, replayOf, replayRecord, replay, goneOn, asked};
-use crate::taken::Taken;
 use crate::taken::take_record;
+use message::perform::Performed;
 use origin::origin::Who;
 use origin::origin::who_wrote;
 use std::num::wrapping_add_u64;
@@ -22,12 +22,12 @@ fn replay_record(ram: &mut [u16], s: Settings, address: u16, at: Standing, bytes
     let number = wrapping_add_u64(at.number, 1);
     let taken = take_record(ram, s, before, bytes);
     match taken {
-        Taken::Passed => Standing {
+        Performed::Refused(_) => Standing {
             remembered: before,
             number,
             who: so_far,
         },
-        Taken::Carried(plan, remembered) => {
+        Performed::Done(plan, remembered) => {
             let who = who_wrote(s, plan, address, number, so_far);
             Standing {
                 remembered,

@@ -1,7 +1,7 @@
 -- `fill_record` meets its contract: from what was taken of the record.
 use borrow.Author.Needs.{needs}
 use Rattle.tables.specs.Table.{tablesOf}
-use Rattle.replay.proofs.Filling.{fill-passed, fill-carried}
+use Rattle.replay.proofs.Filling.{fill-refused, fill-done}
 use Rattle.replay.proofs.fill.fill_record.Statement.{statement}
 use Rattle.replay.proofs.fill.fill_record.Tie as tie
 
@@ -27,7 +27,7 @@ returns : tie.Need-returns
 returns c = let k = c .before .before .before .before in
     let counted = k .before .before in
     let a = counted .before .before .before .before .before .before .args in
-    fill-passed (a .s) _ (tablesOf (a .ram .now) (a .numbers .now) (a .marks .now) (a .at)) _ (k .take-record .ensures .0) _ _
+    fill-refused (a .s) _ (tablesOf (a .ram .now) (a .numbers .now) (a .marks .now) (a .at)) _ (k .take-record .ensures .0) _ _ _
     (c .enum-told .given .1)
     (k .take-record .ensures .1)
     (counted .wrapping-add-u64 .ensures)
@@ -47,7 +47,7 @@ returns-2 c = let marked = c .before .before .before .before in
     let k = told .before .before .before .before in
     let counted = k .before .before in
     let a = counted .before .before .before .before .before .before .args in
-    fill-carried (a .s) _ (tablesOf (a .ram .now) (a .numbers .now) (a .marks .now) (a .at)) _ (k .take-record .ensures .0) _ _ _ _ _ _
+    fill-done (a .s) _ (tablesOf (a .ram .now) (a .numbers .now) (a .marks .now) (a .at)) _ (k .take-record .ensures .0) _ _ _ _ _ _
     (told .taken .given .1)
     (k .take-record .ensures .1)
     (counted .wrapping-add-u64 .ensures)
