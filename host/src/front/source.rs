@@ -204,7 +204,7 @@ pub fn refuse_as_target(given: &Given, target: &OsStr) -> Result<(), Problem> {
     for input in inputs.into_iter().chain(given.value("--names")) {
         let read = file_of(input, || io::stdin().as_fd().try_clone_to_owned());
         if written.is_some() && written == read {
-            let (target, input) = (target.to_string_lossy(), input.to_string_lossy());
+            let (target, input) = (target.to_string_lossy(), name_of(input));
             let text = format!("-o {target} would overwrite {input}, which is read");
             return Err(Problem::Use(text));
         }
@@ -224,12 +224,20 @@ fn file_of(name: &OsStr, standard: impl FnOnce() -> io::Result<OwnedFd>) -> Opti
     Some((about.dev(), about.ino()))
 }
 
+fn name_of(file: &OsStr) -> String {
+    if file == "-" {
+        "standard input".into()
+    } else {
+        file.to_string_lossy().into_owned()
+    }
+}
+
 /// A file's name as it is shown, its bytes, and how many where that is known.
 fn open(file: &OsStr) -> Result<(String, Box<dyn Read>, Option<u64>), Problem> {
+    let name = name_of(file);
     if file == "-" {
-        return Ok(("standard input".into(), Box::new(io::stdin().lock()), None));
+        return Ok((name, Box::new(io::stdin().lock()), None));
     }
-    let name = file.to_string_lossy().into_owned();
     let opened = File::open(file).map_err(|error| problem::file(&name, &error))?;
     let about = opened.metadata().ok().filter(|about| about.is_file());
     Ok((name, Box::new(opened), about.map(|about| about.len())))
