@@ -120,10 +120,13 @@ fn keep_permissions(file: &File, old: &Metadata) -> io::Result<()> {
     file.set_permissions(Permissions::from_mode(old.mode() & 0o7777))
 }
 
-/// Whether nobody else had the file locked; then it is ours until it is closed.
-fn locked(file: &File) -> bool {
+/// Locks a file until it is closed; fails at once where somebody else has.
+fn lock(file: &File) -> io::Result<()> {
     // SAFETY: as for `fchown`.
-    unsafe { flock(file.as_raw_fd(), LOCK_ALONE_NOW) == 0 }
+    match unsafe { flock(file.as_raw_fd(), LOCK_ALONE_NOW) } {
+        0 => Ok(()),
+        _ => Err(io::Error::last_os_error()),
+    }
 }
 
 /// A file that is being written. It is locked, so that one that nobody has
@@ -155,11 +158,12 @@ impl Part {
         for name in names {
             let path = folder.join(name);
             match options.open(&path) {
-                // Somebody else may have cleaned it up before it was locked.
-                Ok(file) if locked(&file) && file.metadata()?.nlink() > 0 => {
-                    return Ok(Part { path, file })
+                Ok(file) => {
+                    let part = Part { path, file };
+                    if part.is_kept()? {
+                        return Ok(part);
+                    }
                 }
-                Ok(_) => {}
                 Err(error) if error.kind() == io::ErrorKind::AlreadyExists => {}
                 Err(error) => return Err(error),
             }
@@ -170,25 +174,32 @@ impl Part {
         ))
     }
 
-    /// Removes parts of our own that a killed program left in the folder.
+    /// Whether nobody has cleaned it up before it was locked. Where files cannot
+    /// be locked, nobody cleans up.
+    fn is_kept(&self) -> io::Result<bool> {
+        let cleaned_up = match lock(&self.file) {
+            Err(error) => error.kind() == io::ErrorKind::WouldBlock,
+            Ok(()) => self.file.metadata()?.nlink() == 0,
+        };
+        Ok(!cleaned_up)
+    }
+
+    /// Removes what killed programs left in the folder.
     fn clean_up(&self, folder: &Path) {
-        let owner = self.file.metadata().map(|about| about.uid());
         let entries = fs::read_dir(folder).into_iter().flatten().flatten();
         for entry in entries.filter(|entry| is_part(&entry.file_name())) {
-            let path = entry.path();
-            let about = fs::symlink_metadata(&path);
-            let is_ours = about
-                .ok()
-                .filter(|about| about.is_file())
-                .map(|it| it.uid());
-            if is_ours.is_some() && is_ours == owner.as_ref().ok().copied() {
-                let left = File::open(&path).map_or(false, |file| locked(&file));
-                if left {
-                    // Where that fails, it is there the next time.
-                    let _ = fs::remove_file(&path);
-                }
+            if self.is_left_over(&entry.path()).unwrap_or(false) {
+                // Where that fails, it is there the next time.
+                let _ = fs::remove_file(entry.path());
             }
         }
+    }
+
+    /// Whether it is a part of the same owner that nobody writes.
+    fn is_left_over(&self, path: &Path) -> io::Result<bool> {
+        let about = fs::symlink_metadata(path)?;
+        let is_ours = about.is_file() && about.uid() == self.file.metadata()?.uid();
+        Ok(is_ours && lock(&File::open(path)?).is_ok())
     }
 
     /// Gives the file the name that was asked for.
