@@ -6,6 +6,7 @@ pub mod changes;
 pub mod check;
 pub mod convert;
 pub mod explain;
+pub mod file;
 pub mod help;
 pub mod history;
 pub mod label;
@@ -95,15 +96,14 @@ pub const COMMANDS: [Command; 7] = [
 /// Runs the program with these arguments; the exit status tells how it went.
 pub fn main(arguments: Vec<OsString>) -> ExitCode {
     let mut output = BufWriter::new(io::stdout().lock());
-    let done = dispatch(&arguments, &mut output).and_then(|status| {
-        output.flush().map_err(problem::output)?;
-        Ok(status)
-    });
-    let status = done.unwrap_or_else(|problem| {
-        // What was said before the problem is true, so it stays.
-        let _ = output.flush();
-        problem.tell()
-    });
+    let done = dispatch(&arguments, &mut output);
+    // What was said before a problem is true, so it stays.
+    let written = output.flush().map_err(problem::output);
+    let status = match (done, written) {
+        // The answer is the same where nobody reads it.
+        (Ok(status), Ok(()) | Err(Problem::Closed)) => status,
+        (Ok(_), Err(problem)) | (Err(problem), _) => problem.tell(),
+    };
     // Where nobody reads any more, the rest has nowhere to go.
     let _ = output.into_parts();
     status

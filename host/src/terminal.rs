@@ -6,7 +6,6 @@ pub mod described;
 mod faults;
 pub mod label;
 pub mod layout;
-pub mod lent_tables;
 pub mod message;
 pub mod planted;
 pub mod records;

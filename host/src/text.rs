@@ -5,18 +5,21 @@
 //! again. [`read_text`] has what the bytes have no place for too: settings and
 //! owners. The README describes the lines.
 
+mod lines;
 mod message;
 mod owners;
 mod pack;
 mod settings;
 mod tokens;
 mod unpack;
+mod unseen;
 
 pub use owners::Owners;
 pub(crate) use pack::Packer;
 pub use pack::{pack, read_names, read_text, TraceText};
 pub(crate) use settings::{read_settings, write_settings};
 pub use tokens::TextError;
-pub(crate) use tokens::{mismatch, shown, Mismatch, Tokens};
+pub(crate) use tokens::{decimal, mismatch, shown, Mismatch, Tokens};
 pub use unpack::unpack;
 pub(crate) use unpack::write_words;
+pub use unseen::visible;

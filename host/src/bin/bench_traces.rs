@@ -9,7 +9,8 @@
 
 use std::env;
 use std::error::Error;
-use std::fs::{self, File};
+use std::fs::{self, File, OpenOptions};
+use std::io::{self, Write};
 use std::path::Path;
 use std::process::{Command, ExitCode, Stdio};
 use std::thread;
@@ -43,11 +44,21 @@ fn run() -> Result<(), Box<dyn Error>> {
     }
     let file = env::temp_dir().join(format!("bench_traces_{}", std::process::id()));
     let measured = RECORDS.iter().try_for_each(|&records| {
-        fs::write(&file, long_trace(records))?;
+        write_new(&file, &long_trace(records))?;
         measure(records, plain, proved, &file)
     });
-    fs::remove_file(&file)?;
-    measured
+    // What went wrong first is told first.
+    let removed = fs::remove_file(&file);
+    measured?;
+    Ok(removed?)
+}
+
+/// Writes a file that was not there; a link that somebody put there is not
+/// followed.
+fn write_new(file: &Path, bytes: &[u8]) -> io::Result<()> {
+    let _ = fs::remove_file(file);
+    let mut new = OpenOptions::new().write(true).create_new(true).open(file)?;
+    new.write_all(bytes)
 }
 
 fn measure(

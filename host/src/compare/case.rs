@@ -4,6 +4,10 @@
 use std::fmt::Write;
 
 use super::sides::Side;
+use crate::terminal::boundary::{
+    answer_of, answer_words, remembered_of, remembered_words, ANSWER_WORDS, REMEMBERED_WORDS,
+    VALUE_WORDS,
+};
 use crate::terminal::cells::RAM_WORDS;
 use crate::terminal::records::RECORD_BYTES;
 use crate::terminal::{Answer, MessageRef, Record, Remembered, Settings};
@@ -13,6 +17,11 @@ pub const GUARD_WORDS: usize = 64;
 pub const GUARD: u16 = 0xEEEE;
 /// Words of room for the reply, lent or not.
 pub const REPLY_ROOM: usize = 40;
+/// What is handed back, and a word behind it that no terminal may touch.
+pub type AnswerRoom = [u16; ANSWER_WORDS + 1];
+type ValueRoom = [u16; VALUE_WORDS + 1];
+type BytesRoom = [u8; RECORD_BYTES + 1];
+const GUARD_BYTE: u8 = 0xEE;
 
 /// What a terminal works on and what it remembers.
 #[derive(Clone, Debug, PartialEq, Eq)]
@@ -54,15 +63,27 @@ pub struct Request {
     pub checks_area: bool,
 }
 
-/// All that a terminal answers.
+/// All that a terminal answers, in room that was filled with guards.
 #[derive(Clone, Debug, PartialEq, Eq)]
 pub struct Answers {
     pub area: Option<(u16, u16)>,
     /// What the reader makes of bytes.
-    pub read: Option<(u16, Record)>,
+    pub read: Option<(u16, ValueRoom)>,
     /// What the writer makes of a value.
-    pub written: Option<(u16, [u8; RECORD_BYTES])>,
+    pub written: Option<(u16, BytesRoom)>,
+    pub number: u16,
+    pub words: AnswerRoom,
+    /// What is behind the words that are remembered.
+    pub behind_remembered: u16,
+    /// What the words say.
     pub answer: Answer,
+}
+
+/// The words that say this, as they are handed back.
+pub fn room_of(answer: &Answer) -> AnswerRoom {
+    let mut room = [GUARD; ANSWER_WORDS + 1];
+    room[..ANSWER_WORDS].copy_from_slice(&answer_words(answer));
+    room
 }
 
 /// Asks one side; the state then holds what the message left.
@@ -73,21 +94,29 @@ pub fn ask(side: &impl Side, state: &mut State, request: &Request) -> Answers {
     let area = request.checks_area.then(|| side.check_area(ram, settings));
     let (read, written, message) = match &request.message {
         Message::Bytes(bytes) => {
-            let read = side.read_record(bytes);
+            let mut value = [GUARD; VALUE_WORDS + 1];
+            let read = (side.read_record(bytes, &mut value), value);
             (Some(read), None, MessageRef::Bytes(bytes))
         }
         Message::Value(record) => {
-            let written = side.write_record(record);
+            let mut bytes = [GUARD_BYTE; RECORD_BYTES + 1];
+            let written = (side.write_record(record, &mut bytes), bytes);
             (None, Some(written), MessageRef::Value(record))
         }
     };
-    let (answer, remembered) = side.carry_out(ram, reply, settings, state.remembered, message);
-    state.remembered = remembered;
+    let mut words = [GUARD; ANSWER_WORDS + 1];
+    let mut remembered = [GUARD; REMEMBERED_WORDS + 1];
+    remembered[..REMEMBERED_WORDS].copy_from_slice(&remembered_words(state.remembered));
+    let number = side.carry_out(ram, reply, settings, &mut remembered, message, &mut words);
+    state.remembered = remembered_of(&remembered);
     Answers {
         area,
         read,
         written,
-        answer,
+        number,
+        words,
+        behind_remembered: remembered[REMEMBERED_WORDS],
+        answer: answer_of(&words),
     }
 }
 
@@ -118,7 +147,7 @@ impl Case {
         lines.debug("area", &left_answers.area, &right_answers.area);
         lines.debug("reader", &left_answers.read, &right_answers.read);
         lines.debug("writer", &left_answers.written, &right_answers.written);
-        lines.answer(&left_answers.answer, &right_answers.answer);
+        lines.answers(&left_answers, &right_answers);
         lines.state(&left_state, &right_state);
         lines.0
     }
@@ -202,7 +231,22 @@ impl Lines {
         self.words("reply", &left.reply, &right.reply);
     }
 
-    pub fn answer(&mut self, left: &Answer, right: &Answer) {
+    fn answers(&mut self, left: &Answers, right: &Answers) {
+        self.debug("number returned", &left.number, &right.number);
+        self.said(&left.answer, &left.words, &right.answer, &right.words);
+        let behind = [left.behind_remembered, right.behind_remembered];
+        self.word("behind what is remembered", behind[0], behind[1]);
+    }
+
+    /// Answers by their names, and word for word where they say the same.
+    pub fn said(&mut self, left: &Answer, words: &[u16], right: &Answer, other_words: &[u16]) {
+        self.answer(left, right);
+        if left == right {
+            self.words("answer", words, other_words);
+        }
+    }
+
+    fn answer(&mut self, left: &Answer, right: &Answer) {
         self.debug("number", &left.number, &right.number);
         self.word("block status", left.block_status, right.block_status);
         self.debug("cell", &left.cell, &right.cell);

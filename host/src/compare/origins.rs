@@ -1,25 +1,34 @@
 //! Who put each word where it is, answered by two sides: random traces, every
-//! address from tables that are filled part by part, some addresses one by one.
+//! address from tables that are filled part by part, some addresses one by one;
+//! every lent word, and words behind them that no side may touch.
 
 pub mod coverage;
 pub mod sides;
 
-use std::fmt::Write;
+use std::fmt::{Debug, Write};
+use std::iter;
 
+use super::case::GUARD;
 use super::episode::Episode;
 use crate::random::Random;
-use crate::terminal::cells::RAM_WORDS;
+use crate::terminal::boundary::{settings_words, PART_WORDS, REMEMBERED_WORDS};
+use crate::terminal::cells::{check_ram, RAM_WORDS};
 use crate::terminal::records::RECORD_BYTES;
-use crate::terminal::who::Origin;
 use crate::terminal::Settings;
 use coverage::Coverage;
-use sides::Side;
+use sides::OriginSide;
 
 /// One of so many traces is spoiled in each of the ways there are.
 const SPOILED_ONE_IN: usize = 24;
 
 /// Addresses of a trace that are also asked for one by one.
 const SINGLES: usize = 3;
+
+/// Words or numbers behind those that are lent.
+const BEHIND: usize = 2;
+const LAST_ROOM: usize = 1 + BEHIND;
+const PART_ROOM: usize = PART_WORDS + BEHIND;
+const GUARD_NUMBER: u64 = 0xEEEE_EEEE_EEEE_EEEE;
 
 /// A trace, and how it is asked about.
 #[derive(Clone, Debug)]
@@ -28,9 +37,14 @@ pub struct Asked {
     pub settings: Settings,
     /// Whole records, some of them damaged, and perhaps a tail.
     pub records: Vec<u8>,
+    /// Records that went by before them.
+    pub before: u64,
     /// Records of each part that the tables go on by.
     pub part_records: usize,
     pub singles: Vec<u16>,
+    /// How much is lent for the record and for the part, of the room there is.
+    pub last_lent: usize,
+    pub part_lent: usize,
 }
 
 impl Asked {
@@ -51,8 +65,11 @@ impl Asked {
             image: state.ram[..RAM_WORDS].to_vec(),
             settings,
             records: bytes,
+            before: random.pick(&[0, 0, 7, 1 << 40]),
             part_records: 1 + random.below(30),
             singles: (0..SINGLES).map(|_| single(&mut random)).collect(),
+            last_lent: random.pick(&[0, 1, 1, 1, LAST_ROOM]),
+            part_lent: random.pick(&[0, 1, 2, 3, 3, 3, 3, 3, PART_ROOM]),
         };
         asked.singles.push(random.pick(&[RAM_WORDS as u16, 0xFFFF]));
         asked.spoil(&mut random);
@@ -70,6 +87,10 @@ impl Asked {
         if random.chance(SPOILED_ONE_IN) {
             self.settings.address = random.pick(&[31, 32]);
         }
+    }
+
+    fn is_refused(&self) -> bool {
+        check_ram(&self.image).is_err() || self.settings.check().is_err()
     }
 
     /// The same with its first records alone.
@@ -91,33 +112,127 @@ pub fn addresses() -> impl Iterator<Item = u16> {
     (0..=RAM_WORDS as u16).chain([0xFFFF])
 }
 
-pub type Answer = Result<Option<Origin>, u16>;
+/// What is said of one address: all that there was room for, lent or not.
+#[derive(Clone, Copy, Debug, PartialEq, Eq)]
+pub struct Said {
+    pub number: u16,
+    pub last: [u64; LAST_ROOM],
+    pub part: [u16; PART_ROOM],
+}
 
-/// All that a side answers, and what it leaves in RAM.
+impl Said {
+    fn ask(asked: &Asked, ask: impl FnOnce(&mut [u64], &mut [u16]) -> u16) -> Said {
+        let mut said = Said {
+            number: 0,
+            last: [GUARD_NUMBER; LAST_ROOM],
+            part: [GUARD; PART_ROOM],
+        };
+        said.number = ask(
+            &mut said.last[..asked.last_lent],
+            &mut said.part[..asked.part_lent],
+        );
+        said
+    }
+}
+
+/// All that a side answers, and all that it leaves in what is lent.
 #[derive(Clone, Debug, PartialEq, Eq)]
 pub struct Told {
-    /// What refuses RAM or settings, or 0.
-    pub number: u16,
+    /// The number of each call that goes on by a part; the first part is empty.
+    pub parts: Vec<u16>,
     pub ram: Vec<u16>,
-    pub records: u64,
-    /// For each of [`addresses`], where nothing refuses.
-    pub every: Vec<Answer>,
-    pub singles: Vec<Answer>,
+    pub remembered: Vec<u16>,
+    pub records: Vec<u64>,
+    /// The tables where they are refused, and else what is behind them: what
+    /// they hold is for the side to know, and [`Told::every`] has what it says.
+    pub numbers: Vec<u64>,
+    pub marks: Vec<u16>,
+    /// For each of [`addresses`], where nothing is refused.
+    pub every: Vec<Said>,
+    /// Those asked for one by one, each with the RAM that is left.
+    pub singles: Vec<(Said, Vec<u16>)>,
+}
+
+/// So many of an item, and the guards behind them.
+fn guarded<T: Copy>(items: &[T], guard: T) -> Vec<T> {
+    let guards = iter::repeat(guard).take(BEHIND);
+    items.iter().copied().chain(guards).collect()
+}
+
+pub fn ask(side: &OriginSide, asked: &Asked) -> Told {
+    let settings = settings_words(&asked.settings);
+    let single = |&address: &u16| {
+        let mut ram = guarded(&asked.image, GUARD);
+        let lent = &mut ram[..asked.image.len()];
+        let said = Said::ask(asked, |last, part| {
+            (side.who)(lent, &settings, address, &asked.records, last, part)
+        });
+        (said, ram)
+    };
+    let singles = asked.singles.iter().map(single).collect();
+
+    // What a refusal must leave alone is not blank.
+    let (number, word) = match asked.is_refused() {
+        true => (GUARD_NUMBER, GUARD),
+        false => (0, 0),
+    };
+    let mut told = Told {
+        parts: Vec::new(),
+        ram: guarded(&asked.image, GUARD),
+        remembered: guarded(&[word; REMEMBERED_WORDS], GUARD),
+        records: guarded(&[asked.before], GUARD_NUMBER),
+        numbers: guarded(&[number; RAM_WORDS], GUARD_NUMBER),
+        marks: guarded(&[word; RAM_WORDS], GUARD),
+        every: Vec::new(),
+        singles,
+    };
+    let parts = asked.records.chunks(asked.part_records * RECORD_BYTES);
+    for part in iter::once(&[][..]).chain(parts) {
+        let number = (side.fill)(
+            &mut told.ram[..asked.image.len()],
+            &mut told.numbers[..RAM_WORDS],
+            &mut told.marks[..RAM_WORDS],
+            &settings,
+            &mut told.remembered,
+            &mut told.records,
+            part,
+        );
+        told.parts.push(number);
+    }
+    if !asked.is_refused() {
+        told.take_entries(side, asked);
+    }
+    told
+}
+
+impl Told {
+    /// What the tables say, in place of what they hold.
+    fn take_entries(&mut self, side: &OriginSide, asked: &Asked) {
+        let (numbers, marks) = (&self.numbers[..RAM_WORDS], &self.marks[..RAM_WORDS]);
+        let entry = |address| {
+            Said::ask(asked, |last, part| {
+                (side.entry)(numbers, marks, address, last, part)
+            })
+        };
+        self.every = addresses().map(entry).collect();
+        self.numbers.drain(..RAM_WORDS);
+        self.marks.drain(..RAM_WORDS);
+    }
 }
 
 /// Asks both sides about the traces of the seeds from `first_seed` on; returns
 /// the first seed of which they tell different things.
 pub fn compare(
-    left: Side,
-    right: Side,
+    left: &OriginSide,
+    right: &OriginSide,
     first_seed: u64,
     traces: u64,
     coverage: &mut Coverage,
 ) -> Option<u64> {
     for seed in first_seed..first_seed + traces {
         let asked = Asked::draw(seed);
-        let told = left(&asked);
-        if told != right(&asked) {
+        let told = ask(left, &asked);
+        if told != ask(right, &asked) {
             return Some(seed);
         }
         coverage.take_in(&asked, &told);
@@ -126,31 +241,41 @@ pub fn compare(
 }
 
 /// What differs, after the fewest records that show a difference.
-pub fn report(left: Side, right: Side, seed: u64) -> String {
+pub fn report(left: &OriginSide, right: &OriginSide, seed: u64) -> String {
     let whole = Asked::draw(seed);
     let records = whole.records.len() / RECORD_BYTES;
-    let differs = |records: &usize| left(&whole.first(*records)) != right(&whole.first(*records));
+    let differs = |records: &usize| {
+        let asked = whole.first(*records);
+        ask(left, &asked) != ask(right, &asked)
+    };
     let records = (0..=records).find(differs).unwrap_or(records);
     let asked = whole.first(records);
-    let (one, other) = (left(&asked), right(&asked));
+    let (one, other) = (ask(left, &asked), ask(right, &asked));
     let mut text = format!("after {records} records of the trace\n");
-    let mut line = |what: String, one: &dyn std::fmt::Debug, other: &dyn std::fmt::Debug| {
-        writeln!(text, "{what}: {one:?}, {other:?}").expect("a string takes all");
-    };
-    line("number".into(), &one.number, &other.number);
-    line("records".into(), &one.records, &other.records);
-    for (address, (one, other)) in one.ram.iter().zip(&other.ram).enumerate() {
-        if one != other {
-            line(format!("RAM {address:04X}"), one, other);
-        }
-    }
-    let every = addresses().zip(one.every.iter().zip(&other.every));
-    let singles = asked.singles.iter().copied();
-    let singles = singles.zip(one.singles.iter().zip(&other.singles));
-    for (address, (one, other)) in every.chain(singles) {
-        if one != other {
-            line(format!("{address:04X}"), one, other);
-        }
+    write_each(&mut text, "part", &one.parts, &other.parts);
+    write_each(&mut text, "RAM", &one.ram, &other.ram);
+    write_each(&mut text, "remembered", &one.remembered, &other.remembered);
+    write_each(&mut text, "records", &one.records, &other.records);
+    write_each(&mut text, "numbers", &one.numbers, &other.numbers);
+    write_each(&mut text, "marks", &one.marks, &other.marks);
+    write_each(&mut text, "address", &one.every, &other.every);
+    for (address, (one, other)) in asked
+        .singles
+        .iter()
+        .zip(one.singles.iter().zip(&other.singles))
+    {
+        let name = format!("asked for {address:04X}");
+        write_each(&mut text, &name, &[one.0], &[other.0]);
+        write_each(&mut text, &format!("{name}, RAM"), &one.1, &other.1);
     }
     text
+}
+
+/// A line for each place at which two lists differ.
+fn write_each<T: Debug + PartialEq>(text: &mut String, name: &str, one: &[T], other: &[T]) {
+    for (place, (one, other)) in one.iter().zip(other).enumerate() {
+        if one != other {
+            writeln!(text, "{name} {place:04X}: {one:X?}, {other:X?}").expect("a string takes all");
+        }
+    }
 }

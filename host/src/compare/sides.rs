@@ -1,9 +1,10 @@
-//! The sides of a comparison: what a terminal is asked.
+//! The sides of a comparison: what a terminal is asked, and the words that it
+//! hands back, into whatever it is lent.
 
-use crate::terminal::records::RECORD_BYTES;
+use crate::terminal::boundary::{put_or_zero, put_outcome, remembered_of, value_words};
 use crate::terminal::{
-    carry_out_planted, check_area, read_record_planted, write_record_planted, Answer, MessageRef,
-    Planted, Record, Remembered, Settings,
+    carry_out_planted, check_area, read_record_planted, write_record_planted, MessageRef, Planted,
+    Record, Settings,
 };
 
 /// A terminal that can be compared with another.
@@ -11,20 +12,22 @@ pub trait Side {
     /// The number, and the lowest unsound cell beside 9.
     fn check_area(&self, ram: &[u16], settings: &Settings) -> (u16, u16);
 
+    /// The number.
     fn carry_out(
         &self,
         ram: &mut [u16],
         reply: &mut [u16],
         settings: &Settings,
-        remembered: Remembered,
+        remembered: &mut [u16],
         message: MessageRef,
-    ) -> (Answer, Remembered);
+        answer: &mut [u16],
+    ) -> u16;
 
-    /// The number, and the value, zero where it is refused.
-    fn read_record(&self, bytes: &[u8]) -> (u16, Record);
+    /// The number; the words of the value.
+    fn read_record(&self, bytes: &[u8], value: &mut [u16]) -> u16;
 
-    /// The number, and the bytes, zero where it is refused.
-    fn write_record(&self, record: &Record) -> (u16, [u8; RECORD_BYTES]);
+    /// The number; the bytes of the record.
+    fn write_record(&self, record: &Record, bytes: &mut [u8]) -> u16;
 }
 
 /// The terminal of this package, with an error planted in it or with none.
@@ -40,26 +43,22 @@ impl Side for Plain {
         ram: &mut [u16],
         reply: &mut [u16],
         settings: &Settings,
-        remembered: Remembered,
+        remembered: &mut [u16],
         message: MessageRef,
-    ) -> (Answer, Remembered) {
-        carry_out_planted(self.0, ram, reply, settings, remembered, message)
+        answer: &mut [u16],
+    ) -> u16 {
+        let before = remembered_of(remembered);
+        let outcome = carry_out_planted(self.0, ram, reply, settings, before, message);
+        put_outcome(outcome, remembered, answer)
     }
 
-    fn read_record(&self, bytes: &[u8]) -> (u16, Record) {
-        numbered(read_record_planted(self.0, bytes), Record::default())
+    fn read_record(&self, bytes: &[u8], value: &mut [u16]) -> u16 {
+        let read = read_record_planted(self.0, bytes);
+        put_or_zero(value, read.map(|record| value_words(&record)))
     }
 
-    fn write_record(&self, record: &Record) -> (u16, [u8; RECORD_BYTES]) {
-        numbered(write_record_planted(self.0, record), [0; RECORD_BYTES])
-    }
-}
-
-/// The number beside what came of it, which is `zero` where it is refused.
-fn numbered<T>(outcome: Result<T, u16>, zero: T) -> (u16, T) {
-    match outcome {
-        Ok(value) => (0, value),
-        Err(number) => (number, zero),
+    fn write_record(&self, record: &Record, bytes: &mut [u8]) -> u16 {
+        put_or_zero(bytes, write_record_planted(self.0, record))
     }
 }
 
@@ -78,17 +77,28 @@ impl Side for Proved {
         ram: &mut [u16],
         reply: &mut [u16],
         settings: &Settings,
-        remembered: Remembered,
+        remembered: &mut [u16],
         message: MessageRef,
-    ) -> (Answer, Remembered) {
-        crate::engine::carry_out(ram, reply, settings, remembered, message)
+        answer: &mut [u16],
+    ) -> u16 {
+        use crate::engine::boundary;
+        let settings = crate::terminal::boundary::settings_words(settings);
+        match message {
+            MessageRef::Bytes(bytes) => {
+                boundary::message(ram, reply, &settings, remembered, bytes, answer)
+            }
+            MessageRef::Value(record) => {
+                let value = value_words(record);
+                boundary::message_value(ram, reply, &settings, remembered, &value, answer)
+            }
+        }
     }
 
-    fn read_record(&self, bytes: &[u8]) -> (u16, Record) {
-        crate::engine::read_record(bytes)
+    fn read_record(&self, bytes: &[u8], value: &mut [u16]) -> u16 {
+        crate::engine::boundary::read(bytes, value)
     }
 
-    fn write_record(&self, record: &Record) -> (u16, [u8; RECORD_BYTES]) {
-        crate::engine::write_record(record)
+    fn write_record(&self, record: &Record, bytes: &mut [u8]) -> u16 {
+        crate::engine::boundary::write(&value_words(record), bytes)
     }
 }

@@ -2,13 +2,14 @@
 //! [`crate::terminal::who`].
 
 use super::boundary;
-use crate::terminal::boundary::{settings_words, REMEMBERED_WORDS, SETTINGS_WORDS};
+use crate::terminal::boundary::{
+    origin_of, settings_words, PART_WORDS, REMEMBERED_WORDS, SETTINGS_WORDS,
+};
 use crate::terminal::who::Origin;
-use crate::terminal::writes::Part;
 use crate::terminal::Settings;
 
-/// Words of a part: its kind, its cell, its place in the message.
-pub const PART_WORDS: usize = 3;
+/// What no call answers: a word that is not written shows.
+const UNANSWERED: ([u64; 1], [u16; PART_WORDS]) = ([u64::MAX], [u16::MAX; PART_WORDS]);
 
 /// Who wrote each word of RAM, as far as a trace was walked.
 #[derive(Clone, Debug)]
@@ -69,9 +70,9 @@ impl Walk {
 
     /// None where the word is as in the image; refuses with 12.
     pub fn who(&self, address: u16) -> Result<Option<Origin>, u16> {
-        let (mut last, mut part) = ([0], [0; PART_WORDS]);
+        let (mut last, mut part) = UNANSWERED;
         let number = boundary::who_entry(&self.numbers, &self.marks, address, &mut last, &mut part);
-        told(number, last, part)
+        origin_of(number, &last, &part)
     }
 }
 
@@ -82,25 +83,9 @@ pub fn who(
     trace: &[u8],
     address: u16,
 ) -> Result<Option<Origin>, u16> {
-    let (mut last, mut part) = ([0], [0; PART_WORDS]);
+    let (mut last, mut part) = UNANSWERED;
     let mut ram = image.to_vec();
     let words = settings_words(settings);
     let number = boundary::who(&mut ram, &words, address, trace, &mut last, &mut part);
-    told(number, last, part)
-}
-
-fn told(number: u16, last: [u64; 1], part: [u16; PART_WORDS]) -> Result<Option<Origin>, u16> {
-    if number != 0 {
-        return Err(number);
-    }
-    let [kind, cell, place] = part;
-    let part = match kind {
-        0 => return Ok(None),
-        1 => Part::Data(place),
-        2 => Part::Pointer,
-        3 => Part::Stack(place),
-        _ => Part::StackPointer,
-    };
-    let record = last[0];
-    Ok(Some(Origin { record, cell, part }))
+    origin_of(number, &last, &part)
 }

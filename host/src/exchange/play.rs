@@ -3,24 +3,32 @@
 use std::fmt::{self, Write};
 
 use super::list::List;
-use crate::compare::case::{ask, Answers, Message, Request, State};
+use crate::compare::case::{ask, AnswerRoom, Answers, Message, Request, State};
 use crate::compare::coverage::Before;
 use crate::compare::Side;
+use crate::terminal::boundary::ANSWER_WORDS;
 use crate::terminal::cells::{Stack, DESCRIPTOR_WORDS, RAM_WORDS};
 use crate::terminal::{write_record, Answer};
 use crate::text::write_words;
 
 /// Interrupt bit 6: the stack wrapped.
 const STACK_ROLLOVER: u16 = 0x0040;
+/// The place of the interrupt word in an answer.
+const INTERRUPT: usize = ANSWER_WORDS - 1;
 
 /// What a message shows to whoever looks after it.
 #[derive(Clone, Debug, Default, PartialEq, Eq)]
 pub struct Shown {
     pub answer: Answer,
+    /// The words that say it, and the one behind them.
+    pub words: AnswerRoom,
     /// The four stack words that it wrote.
     pub descriptor: [u16; DESCRIPTOR_WORDS],
     /// The words that it sent.
     pub reply: Vec<u16>,
+    /// Whether the words that it tells of are there: no descriptor is outside
+    /// RAM, and no reply is longer than its room.
+    pub is_whole: bool,
 }
 
 impl Shown {
@@ -57,6 +65,7 @@ impl Played {
     pub fn without_rollover(mut self) -> Played {
         for shown in &mut self.shown {
             shown.answer.interrupt &= !STACK_ROLLOVER;
+            shown.words[INTERRUPT] &= !STACK_ROLLOVER;
         }
         self
     }
@@ -77,7 +86,7 @@ pub fn play(
         let stack = Stack::read(&end.ram, &list.settings);
         let answers = ask(side, &mut end, &request);
         watch(&before, &request, &answers);
-        shown[number] = show(&stack, &end, answers.answer);
+        shown[number] = show(&stack, &end, &answers);
     }
     Played { order, shown, end }
 }
@@ -104,15 +113,20 @@ pub fn request(list: &List, message: Message) -> Request {
 
 /// What shows after a message, from the stack before it. A terminal that has
 /// gone wrong may have no such words.
-fn show(stack: &Stack, state: &State, answer: Answer) -> Shown {
+fn show(stack: &Stack, state: &State, answers: &Answers) -> Shown {
+    let answer = answers.answer;
+    let entry = state.ram[..RAM_WORDS].get(stack.descriptor());
     let mut descriptor = [0; DESCRIPTOR_WORDS];
-    if let Some(words) = state.ram.get(stack.descriptor()) {
+    if let Some(words) = entry {
         descriptor.copy_from_slice(words);
     }
     let words_sent = usize::from(answer.answered) + usize::from(answer.sent);
+    let reply = state.reply.get(..words_sent);
     Shown {
         answer,
+        words: answers.words,
         descriptor,
-        reply: state.reply.get(..words_sent).unwrap_or_default().to_vec(),
+        reply: reply.unwrap_or_default().to_vec(),
+        is_whole: entry.is_some() && reply.is_some(),
     }
 }

@@ -13,7 +13,7 @@ use super::play::request;
 use crate::compare::case::{Case, Message};
 use crate::compare::replay::{read_case, write_case};
 use crate::terminal::{read_record, write_record, Record};
-use crate::text::{mismatch, shown, Mismatch, TextError, Tokens};
+use crate::text::{decimal, mismatch, shown, Mismatch, TextError, Tokens};
 
 /// The text of a list whose messages keep their layout.
 pub fn write_list(list: &List) -> String {
@@ -93,8 +93,8 @@ fn read_messages(
 fn read_exchanges(line: &str, list: &mut List) -> Result<(), Mismatch> {
     let last = list.messages.len().saturating_sub(1);
     for token in Tokens::new(line).skip(1) {
-        match token.parse::<usize>() {
-            Ok(place) if (1..=last).contains(&place) => list.exchanges.push(place - 1),
+        match decimal(token) {
+            Some(place) if (1..=last).contains(&place) => list.exchanges.push(place - 1),
             _ => return mismatch(shown(Some(token)), format!("a place from 1 to {last}")),
         }
     }

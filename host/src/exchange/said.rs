@@ -4,10 +4,10 @@ use std::fmt::{self, Write};
 
 use super::list::List;
 use super::play::{play, Played, Shown};
-use crate::compare::case::{Answers, Lines, Request};
+use crate::compare::case::{room_of, Answers, Lines, Request};
 use crate::compare::coverage::Before;
 use crate::compare::Side;
-use crate::terminal::cells::Stack;
+use crate::terminal::cells::{Stack, RAM_WORDS};
 use crate::terminal::Remembered;
 
 pub struct Both {
@@ -81,7 +81,12 @@ impl Both {
 
 fn shown_differences(said: &Shown, found: &Shown) -> String {
     let mut lines = Lines(String::new());
-    lines.answer(&said.answer, &found.answer);
+    lines.said(&said.answer, &said.words, &found.answer, &found.words);
+    lines.debug(
+        "the words that it tells of are there",
+        &said.is_whole,
+        &found.is_whole,
+    );
     lines.words("descriptor", &said.descriptor, &found.descriptor);
     lines.words("sent", &said.reply, &found.reply);
     lines.0
@@ -104,10 +109,14 @@ fn said(list: &List, old: &Played, order: &[usize]) -> Played {
     let mut stack = Stack::read(&list.start.ram, &list.settings);
     said.end.ram[stack.block.clone()].copy_from_slice(&list.start.ram[stack.block.clone()]);
     said.end.reply.copy_from_slice(&list.start.reply);
+    // Nothing behind RAM is anybody's.
+    said.end.ram[RAM_WORDS..].copy_from_slice(&list.start.ram[RAM_WORDS..]);
     for &number in order {
         let shown = &mut said.shown[number];
-        // None is refused.
+        // None is refused, and no word is other than its answer says.
         shown.answer.number = 0;
+        shown.words = room_of(&shown.answer);
+        shown.is_whole = true;
         // "The stack holds the last descriptors that fit, in the new order;"
         said.end.ram[stack.descriptor()].copy_from_slice(&shown.descriptor);
         stack.pointer = stack.next().0;

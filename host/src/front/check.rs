@@ -24,12 +24,16 @@ pub fn run(given: &Given, output: &mut dyn Write) -> Result<ExitCode, Problem> {
         }
         number => format!("{number}: {}\n", say::refusal(number, &source.settings)),
     };
-    output.write_all(text.as_bytes()).map_err(problem::output)?;
-    Ok(if number == 0 {
+    let status = if number == 0 {
         ExitCode::SUCCESS
     } else {
         ExitCode::FAILURE
-    })
+    };
+    match output.write_all(text.as_bytes()).map_err(problem::output) {
+        // The status is an answer too, for whoever reads nothing else.
+        Ok(()) | Err(Problem::Closed) => Ok(status),
+        Err(problem) => Err(problem),
+    }
 }
 
 fn sound(ram: &[u16], source: &Source) -> String {

@@ -16,7 +16,9 @@ pub fn pack(given: &Given, output: &mut dyn Write) -> Result<ExitCode, Problem> 
     // Owners change no answer; settings do.
     if read.settings.is_some() {
         let advice = "keep them in a text of their own, for --names";
-        eprintln!("solkverva: {name}: bytes have no place for settings; {advice}");
+        problem::tell(&format!(
+            "{name}: bytes have no place for settings; {advice}"
+        ));
     }
     Ok(ExitCode::SUCCESS)
 }

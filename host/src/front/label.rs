@@ -12,6 +12,7 @@ use super::soundness::{cell_faults, stack_faults};
 use super::source::Source;
 use crate::engine;
 use crate::terminal::cells::Kind;
+use crate::text::decimal;
 
 pub fn run(given: &Given, output: &mut dyn Write) -> Result<ExitCode, Problem> {
     let subaddress = match given.files.get(1) {
@@ -33,8 +34,8 @@ pub fn run(given: &Given, output: &mut dyn Write) -> Result<ExitCode, Problem> {
 }
 
 fn subaddress(word: &str) -> Result<u16, Problem> {
-    let number = word.parse().ok().filter(|number| (1..=30).contains(number));
-    number.ok_or_else(|| {
+    let number = decimal(word).filter(|number| (1..=30).contains(number));
+    number.map(|number| number as u16).ok_or_else(|| {
         let text = format!("label: found {word:?}, expected a subaddress from 1 to 30");
         Problem::Use(text)
     })

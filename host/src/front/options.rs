@@ -71,6 +71,13 @@ impl Given {
         let option = self.options.iter().find(|(option, _)| *option == name);
         option.and_then(|(_, value)| value.as_deref())
     }
+
+    /// How often standard input is to be read.
+    fn standard_inputs(&self) -> usize {
+        let files = self.files.iter().map(OsString::as_os_str);
+        let inputs = files.chain(self.value("--names"));
+        inputs.filter(|input| *input == "-").count()
+    }
 }
 
 pub fn parse(command: &str, arguments: &[OsString], grammar: &Grammar) -> Result<Given, Problem> {
@@ -102,6 +109,7 @@ pub fn parse(command: &str, arguments: &[OsString], grammar: &Grammar) -> Result
     }
     let forms = grammar.forms.iter().filter(|form| given.has(form)).count();
     match given.files.len() {
+        _ if given.standard_inputs() > 1 => Err(wrong("standard input, -, is read once".into())),
         _ if forms > 1 => Err(wrong(format!("only one of {}", grammar.forms.join(", ")))),
         files if files < grammar.least => Err(wrong("which file?".into())),
         files if files > grammar.most => {

@@ -3,7 +3,6 @@
 mod board;
 mod cell;
 mod facts;
-mod file;
 mod grid;
 mod html;
 mod index;
@@ -16,9 +15,10 @@ use std::process::ExitCode;
 
 pub use board::Board;
 
+use super::file;
 use super::options::Given;
 use super::problem::{self, Problem};
-use super::source::Source;
+use super::source::{self, Source};
 use html::{escape, name};
 
 const STYLE: &str = include_str!("page/style.css");
@@ -31,6 +31,7 @@ pub fn run(given: &Given, output: &mut dyn Write) -> Result<ExitCode, Problem> {
     let target = given
         .value("-o")
         .ok_or_else(|| Problem::Use("page: where to? -o PAGE names the file".into()))?;
+    source::refuse_as_target(given, target)?;
     let title = given.value("--title").map(|title| title.to_string_lossy());
     let mut source = Source::open(given)?;
     let board = Board::read(&mut source)?;

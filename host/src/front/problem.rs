@@ -1,9 +1,9 @@
 //! What can go wrong, and the exit status that says so.
 
-use std::io;
+use std::io::{self, Write};
 use std::process::ExitCode;
 
-use crate::text::TextError;
+use crate::text::{visible, TextError};
 
 #[derive(Debug)]
 pub enum Problem {
@@ -11,7 +11,7 @@ pub enum Problem {
     Use(String),
     /// Something is wrong with what it was given: status 1.
     Input(String),
-    /// Nobody reads what is written any more: nothing to say.
+    /// Nobody reads what is written any more: nothing to say, and no fault.
     Closed,
 }
 
@@ -20,16 +20,22 @@ impl Problem {
     pub fn tell(self) -> ExitCode {
         match self {
             Problem::Use(text) => {
-                eprintln!("solkverva: {text}");
+                tell(&text);
                 ExitCode::from(2)
             }
             Problem::Input(text) => {
-                eprintln!("solkverva: {text}");
+                tell(&text);
                 ExitCode::FAILURE
             }
             Problem::Closed => ExitCode::SUCCESS,
         }
     }
+}
+
+/// Says something on standard error, with what a terminal would obey spelled
+/// out. Where that cannot be written, there is nobody to tell.
+pub fn tell(text: &str) {
+    let _ = writeln!(io::stderr(), "solkverva: {}", visible(text));
 }
 
 /// A problem of writing to standard output.

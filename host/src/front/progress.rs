@@ -1,5 +1,6 @@
 //! How far long work has come, shown on a terminal and nowhere else.
 
+use std::io::{self, Write};
 use std::time::{Duration, Instant};
 
 /// Work that takes less is not worth a line.
@@ -35,10 +36,7 @@ impl Progress {
             _ => return,
         }
         self.shown = true;
-        match all {
-            Some(all) => eprint!("\rsolkverva: {done} of {all} records "),
-            None => eprint!("\rsolkverva: {done} records "),
-        }
+        show(&format!("\rsolkverva: {} ", so_far(done, all)));
     }
 }
 
@@ -46,7 +44,21 @@ impl Drop for Progress {
     /// The line goes again.
     fn drop(&mut self) {
         if self.shown {
-            eprint!("\r\x1b[K");
+            show("\r\x1b[K");
         }
+    }
+}
+
+/// Where it cannot be shown, nobody watches.
+fn show(text: &str) {
+    let _ = io::stderr().write_all(text.as_bytes());
+}
+
+/// A file that grows while it is read has more records than it had: then all
+/// that is known is how many are done.
+pub fn so_far(done: u64, all: Option<u64>) -> String {
+    match all.filter(|&all| done <= all) {
+        Some(all) => format!("{done} of {all} records"),
+        None => format!("{done} records"),
     }
 }

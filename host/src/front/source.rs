@@ -1,9 +1,11 @@
 //! A trace from a file or from standard input, as text or as bytes: its image,
 //! its records one by one, and what a text says beside them.
 
-use std::ffi::OsStr;
-use std::fs::File;
+use std::ffi::{OsStr, OsString};
+use std::fs::{self, File};
 use std::io::{self, Cursor, Read};
+use std::os::unix::fs::MetadataExt;
+use std::os::unix::io::{AsFd, OwnedFd};
 
 use super::options::Given;
 use super::problem::{self, Problem};
@@ -21,6 +23,8 @@ pub struct Source {
     pub name: String,
     pub settings: Settings,
     pub owners: Owners,
+    /// Whether the text itself says settings or owners.
+    has_names: bool,
     /// The image, or the length in bytes of one that is too short.
     pub image: Result<Vec<u16>, usize>,
     records: Records,
@@ -53,11 +57,12 @@ impl Source {
             Source::from_text(name, start, input)
         } else {
             let image = whole_image(&start);
-            let records = Records::new(input, length.map(|length| length - read as u64));
+            let records = Records::new(input, length.map(|length| behind(length, read)));
             Ok(Source {
                 name,
                 settings: Settings::TRACE,
                 owners: Owners::default(),
+                has_names: false,
                 image,
                 records,
             })
@@ -83,6 +88,7 @@ impl Source {
         let length = records.len() as u64;
         Source {
             name,
+            has_names: read.settings.is_some() || !read.owners.is_empty(),
             settings: read.settings.unwrap_or(Settings::TRACE),
             image: whole_image(start),
             records: Records::new(Box::new(Cursor::new(records.to_vec())), Some(length)),
@@ -94,9 +100,9 @@ impl Source {
     fn take_names(&mut self, file: &OsStr) -> Result<(), Problem> {
         let (name, text) = read_whole(file)?;
         let names = read_names(&text).map_err(|error| problem::text(&name, &error))?;
-        if !self.owners.is_empty() || self.settings != Settings::TRACE {
+        if self.has_names {
             let text = format!(
-                "{}: has settings or owners of its own, and {name} too",
+                "{}: has settings or owners of its own, so it takes none from {name}",
                 self.name
             );
             return Err(Problem::Input(text));
@@ -176,6 +182,12 @@ impl Records {
     }
 }
 
+/// How many bytes are behind those that were read: none where the file has
+/// grown since its length was asked.
+pub fn behind(length: u64, read: usize) -> u64 {
+    length.saturating_sub(read as u64)
+}
+
 /// A file's name as it is shown, and all of its bytes.
 pub fn read_whole(file: &OsStr) -> Result<(String, Vec<u8>), Problem> {
     let (name, mut input, _) = open(file)?;
@@ -185,12 +197,47 @@ pub fn read_whole(file: &OsStr) -> Result<(String, Vec<u8>), Problem> {
     Ok((name, bytes))
 }
 
+/// Refuses a file to be written that is one of those to be read.
+pub fn refuse_as_target(given: &Given, target: &OsStr) -> Result<(), Problem> {
+    let written = file_of(target, || io::stdout().as_fd().try_clone_to_owned());
+    let inputs = given.files.first().map(OsString::as_os_str);
+    for input in inputs.into_iter().chain(given.value("--names")) {
+        let read = file_of(input, || io::stdin().as_fd().try_clone_to_owned());
+        if written.is_some() && written == read {
+            let (target, input) = (target.to_string_lossy(), name_of(input));
+            let text = format!("-o {target} would overwrite {input}, which is read");
+            return Err(Problem::Use(text));
+        }
+    }
+    Ok(())
+}
+
+/// What tells a plain file from all others, by its name or, for `-`, as it is
+/// open already.
+fn file_of(name: &OsStr, standard: impl FnOnce() -> io::Result<OwnedFd>) -> Option<(u64, u64)> {
+    let about = if name == "-" {
+        standard().and_then(|open| File::from(open).metadata())
+    } else {
+        fs::metadata(name)
+    };
+    let about = about.ok().filter(|about| about.is_file())?;
+    Some((about.dev(), about.ino()))
+}
+
+fn name_of(file: &OsStr) -> String {
+    if file == "-" {
+        "standard input".into()
+    } else {
+        file.to_string_lossy().into_owned()
+    }
+}
+
 /// A file's name as it is shown, its bytes, and how many where that is known.
 fn open(file: &OsStr) -> Result<(String, Box<dyn Read>, Option<u64>), Problem> {
+    let name = name_of(file);
     if file == "-" {
-        return Ok(("standard input".into(), Box::new(io::stdin().lock()), None));
+        return Ok((name, Box::new(io::stdin().lock()), None));
     }
-    let name = file.to_string_lossy().into_owned();
     let opened = File::open(file).map_err(|error| problem::file(&name, &error))?;
     let about = opened.metadata().ok().filter(|about| about.is_file());
     Ok((name, Box::new(opened), about.map(|about| about.len())))

@@ -5,6 +5,10 @@
 //! A slice may have any length: missing words are read as 0, and words for
 //! which there is no room are dropped.
 
+mod origins;
+
+pub use origins::{origin_of, who, who_entry, who_fill, PART_WORDS};
+
 use std::ops::Range;
 
 use super::cells::{Kind, Scheme, CELLS};
@@ -145,14 +149,18 @@ pub fn describe_stack(ram: &[u16], settings: &[u16], description: &mut [u16]) ->
     )
 }
 
-fn put_outcome(outcome: (Answer, Remembered), remembered: &mut [u16], answer: &mut [u16]) -> u16 {
+pub(crate) fn put_outcome(
+    outcome: (Answer, Remembered),
+    remembered: &mut [u16],
+    answer: &mut [u16],
+) -> u16 {
     put(remembered, &remembered_words(outcome.1));
     put(answer, &answer_words(&outcome.0));
     outcome.0.number
 }
 
 /// Puts what came of it, or zeros where a number refuses; returns the number.
-fn put_or_zero<T: Copy + Default, const LENGTH: usize>(
+pub(crate) fn put_or_zero<T: Copy + Default, const LENGTH: usize>(
     slice: &mut [T],
     outcome: Result<[T; LENGTH], u16>,
 ) -> u16 {
@@ -295,7 +303,7 @@ pub fn sharers_of(listing: &[u16; LISTING_WORDS]) -> Vec<Sharer> {
     let words = listing[1..].chunks_exact(2).take(listing[0].into());
     let sharer = |words: &[u16]| Sharer {
         cell: words[0],
-        writes: words[1] != 0,
+        writes: yes_or_no(words[1]),
     };
     words.map(sharer).collect()
 }
@@ -333,14 +341,16 @@ pub fn cell_description_of(words: &[u16; CELL_DESCRIPTION_WORDS]) -> CellDescrip
         kind: match kind {
             0 => Kind::Receive,
             1 => Kind::Transmit,
-            _ => Kind::Broadcast,
+            2 => Kind::Broadcast,
+            _ => panic!("no call describes a cell of kind {kind}"),
         },
         subaddress,
-        is_read: is_read != 0,
+        is_read: yes_or_no(is_read),
         scheme: match scheme {
             1 => Scheme::Single,
             2 => Scheme::Double,
-            _ => Scheme::Circular(size),
+            3 => Scheme::Circular(size),
+            _ => panic!("no call describes a cell of scheme {scheme}"),
         },
         pointer,
         window: run(start, size),
@@ -359,6 +369,14 @@ pub fn stack_description_of(words: &[u16; STACK_DESCRIPTION_WORDS]) -> StackDesc
         pointer,
         block: run(start, size),
         faults,
+    }
+}
+
+fn yes_or_no(word: u16) -> bool {
+    match word {
+        0 => false,
+        1 => true,
+        _ => panic!("no call answers {word}, where 1 is yes and 0 is no"),
     }
 }
 

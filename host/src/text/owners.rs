@@ -1,6 +1,7 @@
 //! Who owns which subaddress: the lines `owner SUBADDRESS NAME`.
 
 use super::tokens::{mismatch, shown, Mismatch, Tokens};
+use super::unseen::first_unseen;
 
 const FIRST: usize = 1;
 const LAST: usize = 30;
@@ -23,8 +24,9 @@ impl Owners {
         if name.is_empty() {
             return mismatch(shown(None), "the owner's name");
         }
-        if name.chars().any(is_unseen) {
-            return mismatch("a control character", "a name that can be printed");
+        if let Some(unseen) = first_unseen(&name) {
+            let found = format!("{unseen} in a name");
+            return mismatch(found, "characters that are seen when it is printed");
         }
         if self.of(subaddress).is_some() {
             let found = format!("a second owner of subaddress {subaddress}");
@@ -51,14 +53,4 @@ impl Owners {
     pub fn is_empty(&self) -> bool {
         self.names.is_empty()
     }
-}
-
-/// A character that is obeyed and not shown, such as one that turns the
-/// direction of writing.
-fn is_unseen(character: char) -> bool {
-    character.is_control()
-        || matches!(
-            character,
-            '\u{61c}' | '\u{200b}'..='\u{200f}' | '\u{2028}'..='\u{202e}' | '\u{2060}'..='\u{206f}' | '\u{feff}'
-        )
 }

@@ -1,5 +1,6 @@
 //! From text to bytes.
 
+use super::lines::lines;
 use super::message::read_message;
 use super::owners::Owners;
 use super::settings::read_settings;
@@ -45,7 +46,7 @@ fn read_lines(
 ) -> Result<TraceText, TextError> {
     let mut packer = Packer::new();
     let text = text.strip_prefix(BYTE_ORDER_MARK).unwrap_or(text);
-    for (index, line) in text.split(|&byte| byte == b'\n').enumerate() {
+    for (index, line) in lines(text).enumerate() {
         let read = read(&mut packer, line);
         read.map_err(|mismatch| mismatch.in_line(index + 1))?;
     }

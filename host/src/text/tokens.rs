@@ -4,6 +4,8 @@ use std::fmt;
 use std::iter::Peekable;
 use std::str::SplitWhitespace;
 
+use super::unseen::visible;
+
 /// What is wrong with a text, and where.
 #[derive(Clone, Debug, PartialEq, Eq)]
 pub struct TextError {
@@ -60,7 +62,7 @@ pub fn shown(token: Option<&str>) -> String {
             let start: String = token.chars().take(SHOWN).collect();
             let rest = if start.len() < token.len() { "..." } else { "" };
             // What a terminal would obey instead of showing it is spelled out.
-            format!("\"{}\"{rest}", start.escape_debug())
+            format!("\"{}\"{rest}", visible(&start.escape_debug().to_string()))
         }
     }
 }
@@ -110,8 +112,7 @@ impl<'a> Tokens<'a> {
 
     pub fn decimal(&mut self, what: &str, largest: usize) -> Result<usize, Mismatch> {
         let token = self.next();
-        let digits = token.filter(|token| token.bytes().all(|byte| byte.is_ascii_digit()));
-        match digits.and_then(|digits| digits.parse().ok()) {
+        match token.and_then(decimal) {
             Some(number) if number <= largest => Ok(number),
             _ => mismatch(shown(token), format!("{what}, decimal, 0 to {largest}")),
         }
@@ -145,6 +146,12 @@ fn hex_word(token: &str) -> Option<u16> {
     let is_hex = token.bytes().all(|byte| byte.is_ascii_hexdigit());
     let fits = is_hex && token.len() <= 4;
     u16::from_str_radix(token, 16).ok().filter(|_| fits)
+}
+
+/// A number in digits alone; signs, which number parsing lets through, are none.
+pub fn decimal(token: &str) -> Option<usize> {
+    let is_decimal = token.bytes().all(|byte| byte.is_ascii_digit());
+    token.parse().ok().filter(|_| is_decimal)
 }
 
 fn hex_byte(pair: &[u8]) -> Option<u8> {

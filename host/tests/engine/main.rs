@@ -2,6 +2,8 @@
 //! `engine`.
 
 mod broadcast;
+mod files;
+mod guards;
 mod labels;
 mod page;
 mod soundness;

@@ -5,8 +5,8 @@
 
 use plain_terminal::engine::boundary as proved;
 use plain_terminal::random::Random;
+use plain_terminal::terminal::boundary as plain;
 use plain_terminal::terminal::boundary::settings_words;
-use plain_terminal::terminal::lent_tables::{entry, fill, Lent, Told};
 use plain_terminal::terminal::who::{who, Origin};
 use plain_terminal::terminal::words::Command;
 use plain_terminal::terminal::writes::Part;
@@ -16,26 +16,47 @@ const RAM_WORDS: usize = 4096;
 const LENGTHS: [usize; 6] = [0, 1, RAM_WORDS - 1, RAM_WORDS, RAM_WORDS + 1, 0x10000];
 const ADDRESSES: [u16; 6] = [0, 1, 0x0100, 0x0FFF, 0x1000, 0xFFFF];
 
+/// What a caller lends for a part of a trace, to be written.
+#[derive(Clone, Debug, PartialEq, Eq)]
+struct Lent {
+    ram: Vec<u16>,
+    numbers: Vec<u64>,
+    marks: Vec<u16>,
+    remembered: Vec<u16>,
+    records: Vec<u64>,
+}
+
+/// What the tables tell of an address: the number that refuses, the record, and
+/// its part, cell and place.
+type Told = (u16, u64, [u16; 3]);
 type Entry = fn(&[u64], &[u16], u16) -> Told;
 type Fill = fn(&mut Lent, &[u16], &[u8]) -> u16;
 
-fn proved_entry(numbers: &[u64], marks: &[u16], address: u16) -> Told {
-    let (mut last, mut part) = ([0xEEEE], [0xEEEE; 3]);
-    let number = proved::who_entry(numbers, marks, address, &mut last, &mut part);
-    (number, last[0], part)
+/// The two functions of a side, over what is lent here.
+macro_rules! side {
+    ($side:ident, $entry:ident, $fill:ident) => {
+        fn $entry(numbers: &[u64], marks: &[u16], address: u16) -> Told {
+            let (mut last, mut part) = ([0xEEEE], [0xEEEE; 3]);
+            let number = $side::who_entry(numbers, marks, address, &mut last, &mut part);
+            (number, last[0], part)
+        }
+
+        fn $fill(lent: &mut Lent, settings: &[u16], trace: &[u8]) -> u16 {
+            $side::who_fill(
+                &mut lent.ram,
+                &mut lent.numbers,
+                &mut lent.marks,
+                settings,
+                &mut lent.remembered,
+                &mut lent.records,
+                trace,
+            )
+        }
+    };
 }
 
-fn proved_fill(lent: &mut Lent, settings: &[u16], trace: &[u8]) -> u16 {
-    proved::who_fill(
-        &mut lent.ram,
-        &mut lent.numbers,
-        &mut lent.marks,
-        settings,
-        &mut lent.remembered,
-        &mut lent.records,
-        trace,
-    )
-}
+side!(proved, proved_entry, proved_fill);
+side!(plain, entry, fill);
 
 /// Every word as a mark, with a number and without.
 fn first_mark_that_differs(one: Entry, other: Entry) -> Option<(u64, u16)> {

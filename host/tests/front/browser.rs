@@ -97,6 +97,7 @@ fn holds(name: &str, text: &str) {
     assert_eq!(read(&path), now, "{path}");
 
     let printed = printed(name);
+    let mut looked_for = 0;
     for line in desk.lines().map(str::trim) {
         let listed = line.strip_prefix("run ").or(line.strip_prefix("label "));
         if let Some(listed) = listed {
@@ -104,8 +105,10 @@ fn holds(name: &str, text: &str) {
                 printed.contains(&letters(listed)),
                 "{name}, printed: {listed}"
             );
+            looked_for += 1;
         }
     }
+    assert!(looked_for > 0, "{name}: no line to look for in print");
 }
 
 /// One browser at a time: two on a small machine take longer than one after

@@ -1,23 +1,24 @@
 //! Sessions: commands with all that they print, stored under sessions/. A line
 //! after `$ ` is a command; what it prints follows, errors after `! `, and its
 //! exit status after `= ` where it is not 0. Lines after `## ` say what is tried.
-//! With STORE_SESSIONS set, what is printed now is stored.
+//! Each session has an empty folder of its own, `$tmp`. With STORE_SESSIONS set, what is printed now is stored.
 
 use std::env;
 use std::fs;
 
-use crate::shell::{read, root, run, Said};
+use crate::shell::{folder, read, root, run, run_in, Said};
 
 const FOLDER: &str = "host/tests/front/sessions";
 
 /// A session's lines, with what its commands print now.
-fn replay(session: &str) -> String {
+fn replay(name: &str, session: &str) -> String {
+    let folder = folder(&format!("session_{name}"));
     let mut text = String::new();
     for line in session.lines() {
         if line.starts_with("## ") {
             text += &format!("{line}\n");
         } else if let Some(command) = line.strip_prefix("$ ") {
-            text += &format!("{line}\n{}", shown(&run(command)));
+            text += &format!("{line}\n{}", shown(&run_in(&folder, command)));
         }
     }
     text
@@ -40,7 +41,7 @@ fn shown(said: &Said) -> String {
 fn holds(name: &str) {
     let path = format!("{FOLDER}/{name}.txt");
     let stored = read(&path);
-    let now = replay(&stored);
+    let now = replay(name, &stored);
     if env::var_os("STORE_SESSIONS").is_some() {
         fs::write(root().join(&path), now).unwrap();
         return;
@@ -79,6 +80,25 @@ fn who_prints_what_is_stored() {
 #[test]
 fn page_prints_what_is_stored() {
     holds("page");
+}
+
+#[test]
+fn odd_conditions_print_what_is_stored() {
+    holds("odd");
+}
+
+/// A page is on the disk before it has its name. On x86-64 alone: elsewhere the
+/// program has its C library in itself, and nothing can be loaded before it.
+#[cfg(target_arch = "x86_64")]
+#[test]
+fn a_page_is_synced_before_it_is_named() {
+    let line =
+        "cc -Wall -Wextra -Werror -shared -fPIC -o $tmp/steps.so host/tests/front/steps.c -ldl && \
+        LD_PRELOAD=$tmp/steps.so host/target/x86_64-unknown-linux-gnu/release/solkverva \
+        page examples/owners.txt -o $tmp/page.html";
+    let said = run_in(&folder("steps"), line);
+    assert_eq!(said.errors, "file synced\nnamed\nfolder synced\n");
+    assert_eq!(said.status, 0);
 }
 
 #[test]

@@ -20,12 +20,26 @@ pub struct Said {
     pub status: i32,
 }
 
+/// An empty folder for what one test's commands write.
+pub fn folder(name: &str) -> PathBuf {
+    let folder = Path::new(env!("CARGO_TARGET_TMPDIR")).join(name);
+    // Whatever an earlier run has left there.
+    let _ = fs::remove_dir_all(&folder);
+    fs::create_dir_all(&folder).unwrap();
+    folder
+}
+
 /// Runs a line of the shell; `$tmp` is a folder for what it writes.
 pub fn run(line: &str) -> Said {
+    run_in(Path::new(env!("CARGO_TARGET_TMPDIR")), line)
+}
+
+/// The same with a folder of its own.
+pub fn run_in(folder: &Path, line: &str) -> Said {
     let said = Command::new("bash")
         .args(["-o", "pipefail", "-c", line])
         .current_dir(root())
-        .env("tmp", env!("CARGO_TARGET_TMPDIR"))
+        .env("tmp", folder)
         .output()
         .unwrap();
     Said {

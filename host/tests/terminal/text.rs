@@ -1,8 +1,11 @@
 //! Traces as text: the lines, their errors, and that nothing is lost.
 
-use plain_terminal::terminal::records::{FLAG_BUS_B, FLAG_INVALID_WORD, FLAG_WRONG_SYNC};
+use plain_terminal::terminal::records::{
+    FLAG_BUS_B, FLAG_INVALID_WORD, FLAG_WRONG_SYNC, RECORD_BYTES,
+};
+use plain_terminal::terminal::trace::IMAGE_BYTES;
 use plain_terminal::terminal::{trace_output, write_record, Record, Settings};
-use plain_terminal::text::{pack, read_text, unpack};
+use plain_terminal::text::{pack, read_text, unpack, visible};
 
 use crate::helpers::{heard, record, Random};
 use crate::trace::{image, EXAMPLE_OUTPUT};
@@ -309,13 +312,59 @@ fn errors_in_settings_and_owners() {
                 "owner 3 # nobody",
                 "found the end of the line, expected the owner's name",
             ),
-            ("owner 3 Be\u{1b}rt", "found a control character, expected"),
+            ("owner 3 Be\u{1b}rt", "found \\u{1b} in a name, expected"),
             (
                 "owner 3 \u{202e}treB",
-                "found a control character, expected",
+                "found \\u{202e} in a name, expected",
             ),
+            ("owner 3 An\u{ad}na", "found \\u{ad} in a name, expected"),
+            ("owner 3 \u{3164}", "found \\u{3164} in a name, expected"),
+            ("owner 3 \u{e0041}", "found \\u{e0041} in a name, expected"),
+            ("owner 3 \u{e0fff}", "found \\u{e0fff} in a name, expected"),
+            ("owner 3 \u{2800}", "found \\u{2800} in a name, expected"),
+            ("owner 3 \u{fe0f}", "found \\u{fe0f} in a name, expected"),
         ],
     );
+}
+
+/// CR, LF or both end a line; each end is one, so that errors name the line
+/// that an editor shows.
+#[test]
+fn every_line_end() {
+    let text = "# RT 5\nram 0143 0480\n\nmessage 2861 words 1\n# the end\n";
+    let bytes = pack(text.as_bytes()).unwrap();
+    assert_eq!(bytes.len(), IMAGE_BYTES + RECORD_BYTES);
+    for end in ["\r", "\r\n"] {
+        let ended = text.replace('\n', end);
+        assert_eq!(pack(ended.as_bytes()).as_ref(), Ok(&bytes), "{end:?}");
+        let wrong = ended.replace("message", "massage");
+        assert!(error(&wrong).starts_with("line 4: "), "{}", error(&wrong));
+    }
+    let mixed = "ram 0143 0480\r\r\nmessage 2861 words 1\n\rmassage";
+    assert!(error(mixed).starts_with("line 5: "), "{}", error(mixed));
+}
+
+/// What would be obeyed is spelled out; signs with a chosen look stay.
+#[test]
+fn nothing_is_obeyed() {
+    assert_eq!(
+        visible("\u{1b}[2J\u{7}\n\u{9b}"),
+        "\\u{1b}[2J\\u{7}\\n\\u{9b}"
+    );
+    assert_eq!(visible("a\u{202e}b\u{2066}c"), "a\\u{202e}b\\u{2066}c");
+    assert_eq!(
+        visible("\u{ad}\u{feff}\u{e0001}"),
+        "\\u{ad}\\u{feff}\\u{e0001}"
+    );
+    assert_eq!(visible("a\u{fe0f}"), "a\\u{fe0f}");
+    for seen in [
+        "Anna & <b>",
+        "\u{633}\u{644}\u{645}\u{649}",
+        "\u{2708}\u{fe0f} Anna",
+        "a\u{301} \\ \u{a0}",
+    ] {
+        assert_eq!(visible(seen), seen);
+    }
 }
 
 #[test]

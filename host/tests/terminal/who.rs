@@ -1,8 +1,11 @@
 //! Who put this word here.
 
+use std::panic::catch_unwind;
+
 use plain_terminal::compare::origins::compare;
 use plain_terminal::compare::origins::coverage::Coverage;
-use plain_terminal::compare::origins::sides::{plain, ERRORS};
+use plain_terminal::compare::origins::sides::{ERRORS, PLAIN};
+use plain_terminal::terminal::boundary::origin_of;
 use plain_terminal::terminal::trace::{image_words, IMAGE_BYTES};
 use plain_terminal::terminal::who::{who, Origin, Walk};
 use plain_terminal::terminal::writes::Part;
@@ -49,6 +52,35 @@ fn each_kind_of_write() {
     }
     assert_eq!(asked(WORKED, 8), None);
     assert_eq!(asked(WORKED, 0x0100), origin(3, 35, Part::StackPointer));
+}
+
+/// The header's words are read as it has them, and others not at all.
+#[test]
+fn words_that_no_call_gives() {
+    let read = |number, last, part: [u16; 3]| origin_of(number, &[last], &part);
+    assert_eq!(read(0, 0, [0, 0, 0]), Ok(None));
+    assert_eq!(read(12, 0, [0, 0, 0]), Err(12));
+    assert_eq!(read(0, 7, [1, 67, 32]), Ok(origin(7, 67, Part::Data(32))));
+    assert_eq!(read(0, 7, [2, 3, 0]), Ok(origin(7, 3, Part::Pointer)));
+    assert_eq!(read(0, 7, [3, 3, 4]), Ok(origin(7, 3, Part::Stack(4))));
+    assert_eq!(read(0, 7, [4, 3, 0]), Ok(origin(7, 3, Part::StackPointer)));
+    for (number, last, part) in [
+        (0, 7, [5, 3, 0]),
+        (0, 7, [0, 3, 0]),
+        (0, 7, [0, 0, 0]),
+        (0, 0, [1, 3, 1]),
+        (0, 0, [0, 3, 0]),
+        (0, 7, [1, 3, 0]),
+        (0, 7, [1, 3, 33]),
+        (0, 7, [2, 3, 1]),
+        (0, 7, [3, 3, 5]),
+        (0, 7, [4, 3, 1]),
+        (12, 7, [0, 0, 0]),
+        (12, 0, [0, 0, 1]),
+    ] {
+        let odd = catch_unwind(|| read(number, last, part));
+        assert!(odd.is_err(), "{number} {last} {part:?}");
+    }
 }
 
 /// The same word again is a write, and the later record has it.
@@ -126,7 +158,7 @@ fn random_traces() {
 fn planted_errors_of_origins_show() {
     for (name, wrong) in ERRORS {
         let mut coverage = Coverage::default();
-        let found = compare(plain, wrong, 1, 600, &mut coverage);
+        let found = compare(&PLAIN, &wrong, 1, 600, &mut coverage);
         assert!(found.is_some(), "{name} does not show");
     }
 }

@@ -1,8 +1,9 @@
 //! What a comparison of who wrote a word has met: how often each class of case
 //! occurred.
 
-use super::{Asked, Told};
+use super::{Asked, Said, Told};
 use crate::compare::classes;
+use crate::terminal::boundary::{origin_of, PART_WORDS};
 use crate::terminal::read_record;
 use crate::terminal::records::{RECORD_BYTES, TRANSFER_FAULTS};
 use crate::terminal::refusal;
@@ -31,6 +32,9 @@ classes! {
     Single "addresses asked one by one and written",
     SingleImage "addresses asked one by one and as in the image",
     Single12 "addresses asked one by one and refused with 12",
+    Later "traces whose records are counted from a later one on",
+    ShortRoom "traces with too little room for a record or its part",
+    LongRoom "traces with more room than both need",
 }
 
 impl Coverage {
@@ -43,9 +47,17 @@ impl Coverage {
     /// Takes in what was asked and told; both sides told the same.
     pub fn take_in(&mut self, asked: &Asked, told: &Told) {
         use Class::*;
-        self.note(Answered, told.number == 0);
-        self.note(Refused1, told.number == refusal::RAM_LENGTH);
-        self.note(Refused3, told.number == refusal::SETTINGS);
+        let number = told.parts[0];
+        self.note(Answered, number == 0);
+        self.note(Refused1, number == refusal::RAM_LENGTH);
+        self.note(Refused3, number == refusal::SETTINGS);
+        let short = asked.last_lent < 1 || asked.part_lent < PART_WORDS;
+        self.note(Later, asked.before > 0);
+        self.note(ShortRoom, short);
+        self.note(
+            LongRoom,
+            asked.last_lent > 1 && asked.part_lent > PART_WORDS,
+        );
         let records = asked.records.chunks_exact(RECORD_BYTES);
         self.note(NoRecord, records.len() == 0);
         self.note(Tail, !records.remainder().is_empty());
@@ -59,20 +71,23 @@ impl Coverage {
                 self.note(TransferFault, record.has_flag(TRANSFER_FAULTS));
             }
         }
-        for answer in &told.every {
-            self.take_in_answer(answer);
-        }
-        for answer in &told.singles {
-            self.note(Single, matches!(answer, Ok(Some(_))));
-            self.note(SingleImage, matches!(answer, Ok(None)));
-            self.note(Single12, *answer == Err(refusal::BEYOND_RAM));
+        // Where there is no room for it, the answer cannot be read.
+        if !short {
+            told.every.iter().for_each(|said| self.take_in_said(said));
+            for (said, _) in &told.singles {
+                let answer = origin_of(said.number, &said.last, &said.part);
+                self.note(Single, matches!(answer, Ok(Some(_))));
+                self.note(SingleImage, answer == Ok(None));
+                self.note(Single12, answer == Err(refusal::BEYOND_RAM));
+            }
         }
     }
 
-    fn take_in_answer(&mut self, answer: &super::Answer) {
+    fn take_in_said(&mut self, said: &Said) {
         use Class::*;
-        self.note(Beyond, *answer == Err(refusal::BEYOND_RAM));
-        self.note(AsInImage, *answer == Ok(None));
+        let answer = origin_of(said.number, &said.last, &said.part);
+        self.note(Beyond, answer == Err(refusal::BEYOND_RAM));
+        self.note(AsInImage, answer == Ok(None));
         if let Ok(Some(origin)) = answer {
             self.note(Data, matches!(origin.part, Part::Data(_)));
             self.note(Pointer, origin.part == Part::Pointer);

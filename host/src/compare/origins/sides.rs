@@ -1,116 +1,222 @@
-//! The sides of a comparison of who wrote a word, and errors to be planted.
+//! The sides of a comparison of who wrote a word: the functions of the header,
+//! over slices, and errors to be planted in them.
 
-use super::{addresses, Asked, Told};
+use crate::terminal::boundary as plain;
 use crate::terminal::records::RECORD_BYTES;
-use crate::terminal::who::Walk;
 use crate::terminal::{read_record, Record};
 
-pub type Side = fn(&Asked) -> Told;
+/// A part of a trace: RAM, numbers, marks, settings, what is remembered, the
+/// count of records, the part's bytes.
+type Fill = fn(&mut [u16], &mut [u64], &mut [u16], &[u16], &mut [u16], &mut [u64], &[u8]) -> u16;
+/// An address in the tables: numbers, marks, the address, last, part.
+type Entry = fn(&[u64], &[u16], u16, &mut [u64], &mut [u16]) -> u16;
+/// An address after a whole trace: RAM, settings, the address, the trace, last,
+/// part.
+type Who = fn(&mut [u16], &[u16], u16, &[u8], &mut [u64], &mut [u16]) -> u16;
 
-/// A side: its question about one address, its walk, and how the records are
-/// handed to it.
-macro_rules! side {
-    ($module:path, $asked:expr, $walk:ident, $take_in:expr) => {{
-        use $module::{who, Walk};
-        let asked: &Asked = $asked;
-        let ask = |&address: &u16| who(&asked.image, &asked.settings, &asked.records, address);
-        let singles = asked.singles.iter().map(ask).collect();
-        match Walk::new(&asked.image, &asked.settings) {
-            Err(number) => refused(asked, number, singles),
-            Ok(mut $walk) => {
-                $take_in;
-                Told {
-                    number: 0,
-                    ram: $walk.ram().to_vec(),
-                    records: $walk.records(),
-                    every: addresses().map(|address| $walk.who(address)).collect(),
-                    singles,
-                }
-            }
-        }
-    }};
+#[derive(Clone, Copy)]
+pub struct OriginSide {
+    pub fill: Fill,
+    pub entry: Entry,
+    pub who: Who,
 }
 
-/// This package's answers: every list of writes is walked.
-pub fn plain(asked: &Asked) -> Told {
-    side!(crate::terminal::who, asked, walk, {
-        for record in asked.records.chunks_exact(RECORD_BYTES) {
-            walk.record(record);
-        }
-    })
-}
+/// This package's answers.
+pub const PLAIN: OriginSide = OriginSide {
+    fill: plain::who_fill,
+    entry: plain::who_entry,
+    who: plain::who,
+};
 
-/// The proved terminal's: tables that go on part by part.
+/// The proved terminal's.
 #[cfg(feature = "engine")]
-pub fn proved(asked: &Asked) -> Told {
-    side!(crate::engine::who, asked, walk, {
-        for part in asked.records.chunks(asked.part_records * RECORD_BYTES) {
-            assert_eq!(walk.go_on(part), 0, "what was taken once is taken again");
+pub const PROVED: OriginSide = OriginSide {
+    fill: crate::engine::boundary::who_fill,
+    entry: crate::engine::boundary::who_entry,
+    who: crate::engine::boundary::who,
+};
+
+/// This package's answers about another trace than the one that is given.
+macro_rules! misheard {
+    ($heard:expr) => {
+        OriginSide {
+            fill: |ram, numbers, marks, settings, remembered, records, trace| {
+                let heard: Vec<u8> = $heard(trace);
+                plain::who_fill(ram, numbers, marks, settings, remembered, records, &heard)
+            },
+            who: |ram, settings, address, trace, last, part| {
+                let heard: Vec<u8> = $heard(trace);
+                plain::who(ram, settings, address, &heard, last, part)
+            },
+            ..PLAIN
         }
-    })
+    };
 }
 
-fn refused(asked: &Asked, number: u16, singles: Vec<super::Answer>) -> Told {
-    Told {
-        number,
-        ram: asked.image.clone(),
-        records: 0,
-        every: Vec::new(),
-        singles,
-    }
+/// This package's answers, and then a wrong word: what is changed is given the
+/// number and the lent part.
+macro_rules! misspelled {
+    ($spell:expr) => {
+        OriginSide {
+            entry: |numbers, marks, address, last, part| {
+                let lent = part.to_vec();
+                let number = plain::who_entry(numbers, marks, address, last, part);
+                let spell: fn(u16, &mut [u16], &[u16]) = $spell;
+                spell(number, part, &lent);
+                number
+            },
+            who: |ram, settings, address, trace, last, part| {
+                let lent = part.to_vec();
+                let number = plain::who(ram, settings, address, trace, last, part);
+                let spell: fn(u16, &mut [u16], &[u16]) = $spell;
+                spell(number, part, &lent);
+                number
+            },
+            ..PLAIN
+        }
+    };
 }
 
-/// This package's answers, but a record that writes the word that stands there
+/// This package's tables, but a record that writes the word that stands there
 /// already counts as one that writes nothing there.
-fn equal_words_unheard(asked: &Asked) -> Told {
-    let mut told = plain(asked);
-    if let Ok(mut walk) = Walk::new(&asked.image, &asked.settings) {
-        told.every = addresses().map(|address| walk.who(address)).collect();
-        for record in asked.records.chunks_exact(RECORD_BYTES) {
-            let before = walk.ram().to_vec();
-            walk.record(record);
-            for (address, answer) in addresses().zip(&mut told.every) {
-                let place = usize::from(address);
-                if walk.ram().get(place) != before.get(place) {
-                    *answer = walk.who(address);
-                }
+fn fill_changed(
+    ram: &mut [u16],
+    numbers: &mut [u64],
+    marks: &mut [u16],
+    settings: &[u16],
+    remembered: &mut [u16],
+    records: &mut [u64],
+    trace: &[u8],
+) -> u16 {
+    let number = plain::who_fill(ram, numbers, marks, settings, remembered, records, &[]);
+    if number != 0 {
+        return number;
+    }
+    for record in trace.chunks_exact(RECORD_BYTES) {
+        let (words, last, parts) = (ram.to_vec(), numbers.to_vec(), marks.to_vec());
+        plain::who_fill(ram, numbers, marks, settings, remembered, records, record);
+        for place in 0..words.len() {
+            if ram[place] == words[place] {
+                numbers[place] = last[place];
+                marks[place] = parts[place];
             }
         }
     }
-    told
+    0
 }
 
 /// Errors by name: this package's answers, each wrong in one way.
-pub const ERRORS: [(&str, Side); 5] = [
-    ("equal-words-unheard", equal_words_unheard),
-    ("last-unheard", |asked| {
-        let records = asked.records.len() / RECORD_BYTES;
-        plain(&asked.first(records.saturating_sub(1)))
-    }),
-    ("damaged-uncounted", |asked| {
-        let mut good = asked.clone();
-        let records = asked.records.chunks_exact(RECORD_BYTES);
-        let kept = records.filter(|record| read_record(record).is_ok());
-        good.records = kept.flatten().copied().collect();
-        plain(&good)
-    }),
-    ("transfers-unheard", |asked| {
-        let mut deaf = asked.clone();
-        for record in deaf.records.chunks_exact_mut(RECORD_BYTES) {
-            let is_transfer = |record: Record| record.is_transfer();
-            if read_record(record).map_or(false, is_transfer) {
-                // Refused, and so counted all the same.
-                record.fill(0xFF);
+pub const ERRORS: [(&str, OriginSide); 12] = [
+    (
+        "equal-words-unheard",
+        OriginSide {
+            fill: fill_changed,
+            ..PLAIN
+        },
+    ),
+    (
+        "last-unheard",
+        misheard!(|trace: &[u8]| {
+            let records = trace.len() / RECORD_BYTES;
+            trace[..records.saturating_sub(1) * RECORD_BYTES].to_vec()
+        }),
+    ),
+    (
+        "damaged-uncounted",
+        misheard!(|trace: &[u8]| {
+            let records = trace.chunks_exact(RECORD_BYTES);
+            let kept = records.filter(|record| read_record(record).is_ok());
+            kept.flatten().copied().collect()
+        }),
+    ),
+    (
+        "transfers-unheard",
+        misheard!(|trace: &[u8]| {
+            let mut deaf = trace.to_vec();
+            for record in deaf.chunks_exact_mut(RECORD_BYTES) {
+                let is_transfer = |record: Record| record.is_transfer();
+                if read_record(record).map_or(false, is_transfer) {
+                    // Refused, and so counted all the same.
+                    record.fill(0xFF);
+                }
             }
-        }
-        plain(&deaf)
-    }),
-    ("cells-without-kind", |asked| {
-        let mut told = plain(asked);
-        let every = told.every.iter_mut().chain(&mut told.singles);
-        for origin in every.flatten().flatten() {
-            origin.cell %= 32;
-        }
-        told
-    }),
+            deaf
+        }),
+    ),
+    (
+        "cells-without-kind",
+        misspelled!(|_, part, _| {
+            if let [_, cell, ..] = part {
+                *cell %= 32;
+            }
+        }),
+    ),
+    // Kinds go to 4.
+    (
+        "a-kind-too-many",
+        misspelled!(|_, part, _| {
+            if let [kind @ 4, ..] = part {
+                *kind = 5;
+            }
+        }),
+    ),
+    (
+        "pointers-with-place",
+        misspelled!(|_, part, _| {
+            if let [2, _, place, ..] = part {
+                *place = 1;
+            }
+        }),
+    ),
+    (
+        "image-with-cell",
+        misspelled!(|number, part, _| {
+            if let (0, [0, cell, ..]) = (number, part) {
+                *cell = 1;
+            }
+        }),
+    ),
+    (
+        "words-beside-refusals",
+        misspelled!(|number, part, lent| {
+            if number != 0 {
+                part.copy_from_slice(lent);
+            }
+        }),
+    ),
+    (
+        "words-behind-the-part",
+        misspelled!(|_, part, _| {
+            if let [_, _, _, behind, ..] = part {
+                *behind = 0;
+            }
+        }),
+    ),
+    (
+        "refused-but-counted",
+        OriginSide {
+            fill: |ram, numbers, marks, settings, remembered, records, trace| {
+                let number =
+                    plain::who_fill(ram, numbers, marks, settings, remembered, records, trace);
+                if let (1.., Some(count)) = (number, records.first_mut()) {
+                    *count += (trace.len() / RECORD_BYTES) as u64;
+                }
+                number
+            },
+            ..PLAIN
+        },
+    ),
+    (
+        "refused-but-played",
+        OriginSide {
+            who: |ram, settings, address, trace, last, part| {
+                let number = plain::who(ram, settings, address, trace, last, part);
+                if number != 0 {
+                    plain::who(ram, settings, 0, trace, &mut [], &mut []);
+                }
+                number
+            },
+            ..PLAIN
+        },
+    ),
 ];

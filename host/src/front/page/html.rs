@@ -2,12 +2,13 @@
 
 use crate::front::names::{bare_cell_name, subaddress_of};
 use crate::front::say;
-use crate::text::Owners;
+use crate::text::{visible, Owners};
 
-/// Text that a browser shows as it stands, in an element or an attribute.
+/// Text that a browser shows as it stands, in an element or an attribute; what
+/// it would obey, such as a mark that turns the direction, is spelled out.
 pub fn escape(text: &str) -> String {
     let mut escaped = String::with_capacity(text.len());
-    for character in text.chars() {
+    for character in visible(text).chars() {
         match character {
             '&' => escaped.push_str("&amp;"),
             '<' => escaped.push_str("&lt;"),
