@@ -19,6 +19,9 @@ const STRANGE: &str = "owner 3 <script>fetch('//x')</script> & \"Co\" 'n <b>sons
     message 2863 words 1 2 3\\nmessage 2884 words 4 5 6\\nmessage 28A1 words 7 tag 9\\n\
     message F8A2 words 8 9\\nmessage 3061 words 1\\nraw 01\\n";
 
+/// The lines of a card that paper has too.
+const PRINTED: [&str; 5] = ["run ", "label ", "note ", "Newest message: ", "What record "];
+
 fn shell(line: &str) -> String {
     let said = run(line);
     assert_eq!(said.status, 0, "{line}: {}", said.errors);
@@ -98,7 +101,8 @@ fn holds(name: &str, text: &str) {
 
     let printed = printed(name);
     for line in desk.lines().map(str::trim) {
-        let listed = line.strip_prefix("run ").or(line.strip_prefix("label "));
+        let mut listed = PRINTED.iter().map(|list| line.strip_prefix(list));
+        let listed = listed.find_map(|line| line);
         if let Some(listed) = listed {
             assert!(
                 printed.contains(&letters(listed)),
