@@ -131,8 +131,7 @@ fn who_shares(
         places.iter().any(|place| window.contains(place))
     };
     let cells = sharers.iter().map(|sharer| sharer.cell).filter(touched);
-    let is_named =
-        |cell: &u16| owners.of(subaddress_of(*cell)).is_some() || replay.used.has(*cell);
+    let is_named = |cell: &u16| owners.of(subaddress_of(*cell)).is_some() || replay.used.has(*cell);
     let (named, others): (Vec<u16>, Vec<u16>) = cells.partition(is_named);
     let mut names: Vec<String> = named.iter().map(|&it| cell_name(owners, it)).collect();
     if !others.is_empty() {

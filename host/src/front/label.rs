@@ -39,11 +39,7 @@ fn subaddress(word: &str) -> Result<u16, Problem> {
 }
 
 /// The label of a subaddress, or else of the whole area.
-pub fn text(
-    source: &mut Source,
-    subaddress: Option<u16>,
-    pairs: bool,
-) -> Result<String, Problem> {
+pub fn text(source: &mut Source, subaddress: Option<u16>, pairs: bool) -> Result<String, Problem> {
     let ram = source.whole_image()?;
     let label = engine::label_area(&ram, &source.settings);
     let label = label.map_err(|number| refused(source, &ram, number))?;

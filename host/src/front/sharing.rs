@@ -132,7 +132,11 @@ impl Sharing<'_> {
     /// Who is in a cell's window; 1, 3, 8 and 9 refuse.
     pub fn of_cell(&self, cell: u16) -> Result<CellSharing, u16> {
         let mut sharing = CellSharing::default();
-        for Sharer { cell: other, writes } in engine::label_cell(self.ram, self.settings, cell)? {
+        for Sharer {
+            cell: other,
+            writes,
+        } in engine::label_cell(self.ram, self.settings, cell)?
+        {
             let words = self.words(cell, other);
             if self.is_named(other) {
                 sharing.named.push(Named {
@@ -145,7 +149,9 @@ impl Sharing<'_> {
                 self.add_quiet(&mut sharing.quiet, other, words);
             }
         }
-        sharing.named.sort_by_key(|named| (!named.warns, named.cell));
+        sharing
+            .named
+            .sort_by_key(|named| (!named.warns, named.cell));
         Ok(sharing)
     }
 
@@ -173,7 +179,9 @@ impl Sharing<'_> {
         let windows = cells.into_iter().map(|cell| (cell, self.window(cell)));
         let shared = shared_runs(&windows.collect::<Vec<_>>());
         let regions = shared.into_iter();
-        let mut regions: Vec<Region> = regions.map(|(words, cells)| self.region(words, cells)).collect();
+        let mut regions: Vec<Region> = regions
+            .map(|(words, cells)| self.region(words, cells))
+            .collect();
         // Where the many lie together that were never set, nobody made a mistake.
         regions.sort_by_key(|it| (it.weight, it.quiet_cells(), it.words.start));
         regions
@@ -216,13 +224,17 @@ impl Sharing<'_> {
 /// The runs of words in which two windows or more lie, each as long as it can
 /// be, with the cells whose windows they are.
 fn shared_runs(windows: &[(u16, Range<usize>)]) -> Vec<(Range<usize>, Vec<u16>)> {
-    let ends = windows.iter().flat_map(|(_, window)| [window.start, window.end]);
+    let ends = windows
+        .iter()
+        .flat_map(|(_, window)| [window.start, window.end]);
     let mut cuts: Vec<usize> = ends.collect();
     cuts.sort_unstable();
     cuts.dedup();
     let mut runs: Vec<(Range<usize>, Vec<u16>)> = Vec::new();
     for cut in cuts.windows(2) {
-        let inside = windows.iter().filter(|(_, window)| window.contains(&cut[0]));
+        let inside = windows
+            .iter()
+            .filter(|(_, window)| window.contains(&cut[0]));
         let cells: Vec<u16> = inside.map(|(cell, _)| *cell).collect();
         if cells.len() >= 2 {
             // No window begins or ends at a cut unless the cells change there.

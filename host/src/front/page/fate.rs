@@ -119,7 +119,11 @@ pub fn sent_lines(board: &Board, cell: u16, message: &Message) -> Vec<String> {
 }
 
 fn sent_line(board: &Board, cell: u16, sent: &Sent) -> String {
-    let words: Vec<String> = sent.words.iter().map(|it| format!("{:04X}", it.word)).collect();
+    let words: Vec<String> = sent
+        .words
+        .iter()
+        .map(|it| format!("{:04X}", it.word))
+        .collect();
     let addresses: Vec<usize> = sent.words.iter().map(|it| it.address).collect();
     let whose = match sent.words[0].origin {
         None => "as in the image".to_string(),

@@ -68,7 +68,10 @@ pub fn tell_others(board: &Board, cell: u16, most: usize) -> Vec<String> {
     }
     let tell = |(other, at): &(u16, Vec<usize>)| {
         let name = html::cell(&board.owners, *other);
-        format!("<b class=\"lost\">words for {name}</b> at {}", places(at, most))
+        format!(
+            "<b class=\"lost\">words for {name}</b> at {}",
+            places(at, most)
+        )
     };
     others.iter().map(tell).collect()
 }

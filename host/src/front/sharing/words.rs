@@ -34,7 +34,11 @@ pub fn quiet_cells(number: usize) -> String {
 fn can(writers: (String, usize), senders: (String, usize)) -> String {
     let (writers, able) = writers;
     let (senders, only_sending) = senders;
-    let only = if only_sending == 1 { "only sends" } else { "only send" };
+    let only = if only_sending == 1 {
+        "only sends"
+    } else {
+        "only send"
+    };
     match (able, only_sending) {
         (0, _) => format!("{senders} {only}"),
         (_, 0) => format!("{writers} can write"),
