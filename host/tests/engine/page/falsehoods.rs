@@ -217,9 +217,7 @@ fn nothing_left(_: &Played, telling: &Telling) -> Option<Telling> {
     page(telling, &left_line(telling)?, "")
 }
 
-fn passed(played: &Played, telling: &Telling) -> Option<Telling> {
-    let cells = played.sound_cells().into_iter();
-    cells.into_iter().find(|&it| !left(played, it).is_empty())?;
+fn passed(_: &Played, telling: &Telling) -> Option<Telling> {
     let line = left_line(telling)?;
     page(
         telling,
