@@ -59,12 +59,16 @@ impl History {
         if answer.number != 0 {
             return (answer, None);
         }
-        let words = self.replay.moved(&answer);
+        let mut words = self.replay.moved(&answer);
         let facts = self.facts_of(bytes, &answer, words.len());
         if kind_of(answer.cell) != Kind::Transmit {
             for word in &words {
                 self.facts[word.address] = facts;
             }
+        }
+        for word in &mut words {
+            let came = self.facts[word.address].outcome;
+            word.came = word.origin.map(|_| came);
         }
         let stack = self.replay.stack();
         self.facts[entry_before(&stack.block, stack.pointer.into())] = facts;

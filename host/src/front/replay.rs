@@ -1,5 +1,6 @@
 //! The proved terminal in the middle of a trace.
 
+use super::outcome::Outcome;
 use super::used::Used;
 use crate::engine::{self, Walk};
 use crate::terminal::cells::Kind;
@@ -17,6 +18,8 @@ pub struct Moved {
     /// Who had written it last when the message was done: where it was stored,
     /// the message itself.
     pub origin: Option<Origin>,
+    /// How that message went, where it is known.
+    pub came: Option<Outcome>,
 }
 
 /// Where words lie, in their order.
@@ -109,6 +112,7 @@ impl Replay {
             address,
             word: self.ram[address],
             origin: self.origin(address),
+            came: None,
         });
         if cell.kind == Kind::Transmit {
             let sent = self.reply[1..].iter().take(answer.sent.into());

@@ -89,7 +89,7 @@ fn check(played: &Played, telling: &Telling, seen: &mut Seen) -> Held {
     labels::check_pairs(played, &telling.pairs)
 }
 
-const CLASSES: [&str; 38] = [
+const CLASSES: [&str; 39] = [
     "a word was sent and stands",
     "a word was sent and overwritten",
     "a word was sent and overwritten with its like",
@@ -108,6 +108,7 @@ const CLASSES: [&str; 38] = [
     "a transfer",
     "refused, since the cell is unsound",
     "the newest sent another's words",
+    "the newest sent faulty words",
     "the newest is overwritten",
     "the newest is partly overwritten",
     "what the newest sent is overwritten",

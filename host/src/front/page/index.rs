@@ -4,7 +4,7 @@
 use std::io::{self, Write};
 
 use super::board::{Board, Message};
-use super::fate::{lost, others_sent};
+use super::fate::{lost, not_good_sent, others_sent};
 use super::html::{self, cell, name};
 use super::left::{left_behind, tell_left, tell_others};
 use crate::front::names::{bare_cell_name, count, listed, subaddress_of};
@@ -92,14 +92,22 @@ fn tell(board: &Board, number: u16, message: &Message) -> String {
         text += &format!("; {none}");
     }
     if !board.stores(number) {
-        let others = others_sent(board, number, message).into_iter();
-        let others: Vec<String> = others.map(|other| cell(&board.owners, other)).collect();
-        if !others.is_empty() {
-            let whose = listed(&others);
-            text += &format!(", <b class=\"lost\">sent words for {whose}</b>");
-        }
+        text += &what_it_sent(board, number, message);
     }
     text + &lost(board, number, message)
+}
+
+/// Whether a message sent words of others, or words that were not good.
+fn what_it_sent(board: &Board, number: u16, message: &Message) -> String {
+    let others = others_sent(board, number, message).into_iter();
+    let others: Vec<String> = others.map(|other| cell(&board.owners, other)).collect();
+    let whose = format!("words for {}", listed(&others));
+    let whose = (!others.is_empty()).then_some(whose);
+    let bad = not_good_sent(message).into_iter();
+    let bad = bad.map(|verdict| format!("{verdict} words"));
+    let sent = whose.into_iter().chain(bad);
+    sent.map(|what| format!(", <b class=\"lost\">sent {what}</b>"))
+        .collect()
 }
 
 /// Those who are owned or used, each, and how many others there are.

@@ -1,7 +1,7 @@
 //! The index: what a member learns who reads only his line.
 
 use super::parts::{index_line, tells, Held, Seen};
-use super::played::{is_good, Done, Played};
+use super::played::{is_good, verdict, Done, Played};
 use super::told::{
     and_no_word, bare, cell, html_runs, left, left_lines, listed, lost, verdict_html,
 };
@@ -21,17 +21,33 @@ fn others_sent(played: &Played, done: &Done) -> Vec<u16> {
     others
 }
 
+/// How the messages went whose words a message sent, where they were not good.
+fn bad_sent(played: &Played, done: &Done) -> Vec<String> {
+    let mut all: Vec<String> = Vec::new();
+    for origin in done.words.iter().filter_map(|word| word.origin) {
+        let came = played.of(origin.record);
+        let known = all.contains(&verdict(came));
+        if !done.stores() && !is_good(came) && !known {
+            all.push(verdict(came));
+        }
+    }
+    all
+}
+
 fn message(played: &Played, done: &Done) -> String {
     let none = and_no_word(played, done);
     let others = others_sent(played, done).into_iter();
     let others: Vec<String> = others.map(|it| cell(played, it)).collect();
-    let whose = match others.len() {
-        0 => String::new(),
-        _ => format!(", <b class=\"lost\">sent words for {}</b>", listed(&others)),
-    };
+    let mut sent = String::new();
+    if !others.is_empty() {
+        sent += &format!(", <b class=\"lost\">sent words for {}</b>", listed(&others));
+    }
+    for verdict in bad_sent(played, done) {
+        sent += &format!(", <b class=\"lost\">sent {verdict} words</b>");
+    }
     let verdict = verdict_html(done);
     let lost = lost(played, done);
-    format!("record {}, {verdict}{none}{whose}{lost}", done.record)
+    format!("record {}, {verdict}{none}{sent}{lost}", done.record)
 }
 
 /// Words of others in a cell's window.
@@ -116,6 +132,11 @@ fn meet(played: &Played, number: u16, seen: &mut Seen) {
     if let Some(newest) = played.newest(number, |_| true) {
         let others = others_sent(played, newest);
         seen.met("the newest sent another's words", !others.is_empty());
+        let bad = bad_sent(played, newest);
+        seen.met(
+            "the newest sent faulty words",
+            bad.contains(&"faulty".into()),
+        );
         let lost = lost(played, newest);
         seen.met("the newest is overwritten", lost.contains("all over"));
         seen.met("the newest is partly overwritten", lost.contains("of them"));

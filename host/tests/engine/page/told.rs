@@ -180,12 +180,14 @@ fn sent_line(played: &Played, done: &Done, group: &[Word]) -> String {
     let whose = match group[0].origin {
         None => "as in the image".to_string(),
         Some(it) => {
-            let came = format!(
-                "came with record {} for {}",
-                it.record,
-                cell(played, it.cell)
-            );
-            bold(came, !played.same_owner(ours, it.cell))
+            let bad = !is_good(played.of(it.record));
+            let which = match bad {
+                true => format!(", {}", verdict(played.of(it.record))),
+                false => String::new(),
+            };
+            let name = cell(played, it.cell);
+            let came = format!("came with record {}{which} for {name}", it.record);
+            bold(came, bad || !played.same_owner(ours, it.cell))
         }
     };
     let since = played.overwriter(&group[0]).map_or(String::new(), |it| {
