@@ -12,14 +12,17 @@ pub mod history;
 pub mod label;
 pub mod names;
 pub mod options;
+pub mod outcome;
 pub mod page;
 pub mod problem;
 pub mod progress;
 pub mod replay;
 pub mod run;
 pub mod say;
+pub mod sharing;
 pub mod soundness;
 pub mod source;
+pub mod used;
 pub mod who;
 
 use std::ffi::OsString;
@@ -59,7 +62,10 @@ pub const COMMANDS: [Command; 7] = [
     Command {
         name: "label",
         help: include_str!("front/help/label.txt"),
-        grammar: Grammar::files(1, 2).values(&["--names"]).forms(&FORMS),
+        grammar: Grammar::files(1, 2)
+            .flags(&["--pairs"])
+            .values(&["--names"])
+            .forms(&FORMS),
         run: label::run,
     },
     Command {

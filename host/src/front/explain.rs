@@ -1,7 +1,8 @@
 //! What a message did, in words.
 
-use super::names::{self, addresses, cell_name, count};
-use super::replay::Replay;
+use super::names::{self, addresses, cell_name, count, subaddress_of};
+use super::outcome::Outcome;
+use super::replay::{places, Moved, Replay};
 use super::say;
 use super::soundness::{cell_faults, stack_faults};
 use crate::engine;
@@ -11,8 +12,6 @@ use crate::terminal::message::cell_kind;
 use crate::terminal::words::Command;
 use crate::terminal::{Answer, Record, Settings};
 use crate::text::Owners;
-
-const BUSY: u16 = 0x0008;
 
 /// Lines about the record that a replay has just met.
 pub fn explain(replay: &Replay, owners: &Owners, bytes: &[u8], answer: &Answer) -> Vec<String> {
@@ -58,16 +57,17 @@ fn asked_of_the_other(record: &Record, settings: &Settings, owners: &Owners) -> 
 
 fn accepted(replay: &Replay, owners: &Owners, record: &Record, answer: &Answer) -> Vec<String> {
     let cell = replay.cell_of(answer);
-    let places = replay.places(answer);
+    let words = replay.moved(answer);
+    let outcome = Outcome::new(answer, record, &replay.settings, words.len());
     let mut lines = vec![format!(
         "{}; {}",
-        say::heard(record, answer.block_status),
-        moved(replay, record, answer, &places)
+        say::heard(record, &outcome, &replay.settings),
+        moved(answer, &outcome, &words)
     )];
     if cell.kind == Kind::Transmit {
-        lines.extend(whose_words(replay, owners, &places));
+        lines.extend(whose_words(owners, &words));
     } else {
-        lines.extend(who_shares(replay, owners, answer, &places));
+        lines.extend(who_shares(replay, owners, answer, &places(&words)));
     }
     lines.push(pointer(owners, answer, &cell));
     let (block_status, interrupt) = (answer.block_status, answer.interrupt);
@@ -79,30 +79,29 @@ fn accepted(replay: &Replay, owners: &Owners, record: &Record, answer: &Answer) 
     lines
 }
 
-/// Where the words went, or came from.
-fn moved(replay: &Replay, record: &Record, answer: &Answer, places: &[usize]) -> String {
-    let sends = names::kind_of(answer.cell) == Kind::Transmit;
-    if places.is_empty() {
-        let why = why_none(replay, record, answer, sends);
-        return format!("no word {}: {why}", if sends { "sent" } else { "stored" });
+/// Where the words went, or came from, or why none did.
+fn moved(answer: &Answer, outcome: &Outcome, words: &[Moved]) -> String {
+    if let Some(none) = outcome.no_word() {
+        return none;
     }
-    let words = count(places.len() as u64, "word");
-    let places = names::runs(places);
-    match (sends, say::is_good(answer.block_status)) {
-        (true, _) => format!("{words} sent from {places}"),
-        (false, true) => format!("{words} stored at {places}"),
-        (false, false) => format!("{words} stored at {places} all the same"),
+    let number = count(words.len() as u64, "word");
+    let places = names::runs(&places(words));
+    let sends = names::kind_of(answer.cell) == Kind::Transmit;
+    match (sends, outcome.is_good()) {
+        (true, _) => format!("{number} sent from {places}"),
+        (false, true) => format!("{number} stored at {places}"),
+        (false, false) => format!("{number} stored at {places} all the same"),
     }
 }
 
 /// Whose words were sent: a line for each message that they came with.
-fn whose_words(replay: &Replay, owners: &Owners, places: &[usize]) -> Vec<String> {
+fn whose_words(owners: &Owners, words: &[Moved]) -> Vec<String> {
     let mut groups: Vec<(Option<(u64, u16)>, Vec<usize>)> = Vec::new();
-    for &place in places {
-        let origin = replay.origin(place).map(|it| (it.record, it.cell));
+    for word in words {
+        let origin = word.origin.map(|it| (it.record, it.cell));
         match groups.last_mut() {
-            Some((known, places)) if *known == origin => places.push(place),
-            _ => groups.push((origin, vec![place])),
+            Some((known, places)) if *known == origin => places.push(word.address),
+            _ => groups.push((origin, vec![word.address])),
         }
     }
     let line = |(origin, places): (Option<(u64, u16)>, Vec<usize>)| {
@@ -118,7 +117,8 @@ fn whose_words(replay: &Replay, owners: &Owners, places: &[usize]) -> Vec<String
     groups.into_iter().map(line).collect()
 }
 
-/// Which other cells have the places of these words in their windows.
+/// Which other cells have the places of these words in their windows: those
+/// that are owned or had a message, and how many others.
 fn who_shares(
     replay: &Replay,
     owners: &Owners,
@@ -131,33 +131,19 @@ fn who_shares(
         places.iter().any(|place| window.contains(place))
     };
     let cells = sharers.iter().map(|sharer| sharer.cell).filter(touched);
-    let names: Vec<String> = cells.map(|cell| cell_name(owners, cell)).collect();
-    let last = names.last()?;
-    Some(match &names[..names.len() - 1] {
-        [] => format!("in the window of {last} too"),
-        others => format!("in the windows of {} and {last} too", others.join(", ")),
-    })
-}
-
-fn why_none(replay: &Replay, record: &Record, answer: &Answer, sends: bool) -> &'static str {
-    let illegal = answer.block_status & say::ILLEGAL != 0;
-    let busy = answer.status & BUSY != 0;
-    let settings = &replay.settings;
-    if sends {
-        match (illegal, busy) {
-            _ if answer.block_status & say::FAULT != 0 => "the message is faulty",
-            (true, _) => "the message is illegal",
-            _ => "the terminal is busy",
-        }
-    } else if illegal && settings.illegal_receive_disable {
-        "illegal, and illegal-receive-disable is on"
-    } else if busy && settings.busy_receive_disable {
-        "busy, and busy-receive-disable is on"
-    } else if record.count == 0 {
-        "none was heard"
-    } else {
-        "no reason known"
+    let is_named = |cell: &u16| owners.of(subaddress_of(*cell)).is_some() || replay.used.has(*cell);
+    let (named, others): (Vec<u16>, Vec<u16>) = cells.partition(is_named);
+    let mut names: Vec<String> = named.iter().map(|&it| cell_name(owners, it)).collect();
+    if !others.is_empty() {
+        let others = count(others.len() as u64, "cell");
+        names.push(format!("{others}, unowned and not used so far,"));
     }
+    let window = match named.len() + others.len() {
+        0 => return None,
+        1 => "window",
+        _ => "windows",
+    };
+    Some(format!("in the {window} of {} too", names::listed(&names)))
 }
 
 /// A cell's scheme and window.
@@ -209,6 +195,15 @@ fn status(answer: &Answer, settings: &Settings, record: &Record) -> String {
     )
 }
 
+/// The cell that a record's command asks for.
+pub fn asked_cell(bytes: &[u8], settings: &Settings) -> u16 {
+    let command = match bytes {
+        [high, low, ..] => Command(u16::from_be_bytes([*high, *low])),
+        _ => Command(0),
+    };
+    names::cell_number(cell_kind(command, settings), command.subaddress())
+}
+
 /// Why a record was refused, as exactly as can be said.
 pub fn why_refused(
     ram: &[u16],
@@ -217,18 +212,13 @@ pub fn why_refused(
     bytes: &[u8],
     number: u16,
 ) -> String {
-    let command = match bytes {
-        [high, low, ..] => Command(u16::from_be_bytes([*high, *low])),
-        _ => Command(0),
-    };
     let reason = say::refusal(number, settings);
     match number {
         5 => format!("{reason}: {}", say::layout_faults(bytes).join(" and ")),
         6 => format!("{reason}, which is {}", settings.address),
         8 => format!("{reason}: {}", stack_faults(ram, settings).join(" and ")),
         9 => {
-            let kind = cell_kind(command, settings);
-            let cell = names::cell_number(kind, command.subaddress());
+            let cell = asked_cell(bytes, settings);
             let faults = cell_faults(ram, settings, cell).join(" and ");
             format!("{} is unsound: {faults}", cell_name(owners, cell))
         }

@@ -3,19 +3,34 @@
 use std::ops::Range;
 
 use super::names::kind_of;
-use super::replay::Replay;
+use super::outcome::Outcome;
+use super::replay::{Moved, Replay};
 use super::say;
+use super::used::CELLS;
 use crate::engine;
-use crate::terminal::cells::{Kind, DESCRIPTOR_WORDS, RAM_WORDS};
+use crate::terminal::cells::{Kind, Scheme, DESCRIPTOR_WORDS, RAM_WORDS};
 use crate::terminal::Answer;
 
 /// What is kept of a message beside its number.
 #[derive(Clone, Copy, Debug, Default, PartialEq, Eq)]
 pub struct Facts {
     pub tag: u16,
-    pub block_status: u16,
+    pub outcome: Outcome,
     /// The other terminal's command, where the message was a transfer.
     pub transmit_command: Option<u16>,
+    /// How often the cell's pointer had gone elsewhere before the message, and
+    /// after it.
+    turns: (u64, u64),
+}
+
+/// Whether a cell's pointer has passed words in its window since they were
+/// written there.
+#[derive(Clone, Copy, Debug, PartialEq, Eq)]
+pub enum Passed {
+    No,
+    Yes,
+    /// Of two blocks: it has, and stands at their block again.
+    AndBack,
 }
 
 /// A replay that keeps the facts of every message whose words are still there.
@@ -24,6 +39,8 @@ pub struct History {
     /// For each address, of the message that stored its word last; for the
     /// first word of a stack entry, of the entry's message.
     facts: Vec<Facts>,
+    /// For each cell, how often its pointer has gone elsewhere.
+    turns: [u64; CELLS],
 }
 
 impl History {
@@ -31,31 +48,61 @@ impl History {
         History {
             replay,
             facts: vec![Facts::default(); RAM_WORDS],
+            turns: [0; CELLS],
         }
     }
 
-    /// The next record; where the words of an accepted one lie comes with its
-    /// answer and its facts.
-    pub fn message(&mut self, bytes: &[u8]) -> (Answer, Option<(Facts, Vec<usize>)>) {
+    /// The next record; the words of an accepted one come with its answer and
+    /// its facts.
+    pub fn message(&mut self, bytes: &[u8]) -> (Answer, Option<(Facts, Vec<Moved>)>) {
         let answer = self.replay.message(bytes);
         if answer.number != 0 {
             return (answer, None);
         }
-        let record = engine::read_record(bytes).1;
-        let facts = Facts {
-            tag: record.tag,
-            block_status: answer.block_status,
-            transmit_command: say::transmit_command(&record),
-        };
-        let places = self.replay.places(&answer);
+        let mut words = self.replay.moved(&answer);
+        let facts = self.facts_of(bytes, &answer, words.len());
         if kind_of(answer.cell) != Kind::Transmit {
-            for &place in &places {
-                self.facts[place] = facts;
+            for word in &words {
+                self.facts[word.address] = facts;
             }
+        }
+        for word in &mut words {
+            let came = self.facts[word.address].outcome;
+            word.came = word.origin.map(|_| came);
         }
         let stack = self.replay.stack();
         self.facts[entry_before(&stack.block, stack.pointer.into())] = facts;
-        (answer, Some((facts, places)))
+        (answer, Some((facts, words)))
+    }
+
+    /// The facts of the message that was just accepted.
+    fn facts_of(&mut self, bytes: &[u8], answer: &Answer, words: usize) -> Facts {
+        let record = engine::read_record(bytes).1;
+        let turns = &mut self.turns[usize::from(answer.cell)];
+        let before = *turns;
+        if answer.pointer_before != answer.pointer_after {
+            *turns += 1;
+        }
+        Facts {
+            tag: record.tag,
+            outcome: Outcome::new(answer, &record, &self.replay.settings, words),
+            transmit_command: say::transmit_command(&record),
+            turns: (before, *turns),
+        }
+    }
+
+    /// Whether the pointer of a cell has passed the word that a message for it
+    /// left at an address. In a circle the message's own move passes it, and no
+    /// later one without writing there.
+    pub fn passed(&self, cell: u16, address: usize) -> Passed {
+        let (before, after) = self.facts[address].turns;
+        let since = self.turns[usize::from(cell)] - before;
+        match self.replay.cell(cell).scheme {
+            Scheme::Double if since % 2 == 1 => Passed::Yes,
+            Scheme::Double if since > 0 => Passed::AndBack,
+            Scheme::Circular(_) if after > before => Passed::Yes,
+            _ => Passed::No,
+        }
     }
 
     /// The facts of the message whose data word stands at an address, or

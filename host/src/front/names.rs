@@ -73,8 +73,8 @@ pub fn addresses(range: &Range<usize>) -> String {
     }
 }
 
-/// Runs of addresses, each from one on and rising by 1: `047E-047F, 0400-0401`.
-pub fn runs(places: &[usize]) -> String {
+/// Addresses in runs, each from one on and rising by 1.
+pub fn ranges(places: &[usize]) -> Vec<Range<usize>> {
     let mut runs: Vec<Range<usize>> = Vec::new();
     for &place in places {
         match runs.last_mut() {
@@ -82,7 +82,12 @@ pub fn runs(places: &[usize]) -> String {
             _ => runs.push(place..place + 1),
         }
     }
-    let texts: Vec<String> = runs.iter().map(addresses).collect();
+    runs
+}
+
+/// The same by name: `047E-047F, 0400-0401`.
+pub fn runs(places: &[usize]) -> String {
+    let texts: Vec<String> = ranges(places).iter().map(addresses).collect();
     texts.join(", ")
 }
 
@@ -114,4 +119,14 @@ pub fn cell_runs(cells: &[u16]) -> String {
 pub fn count(number: u64, thing: &str) -> String {
     let s = if number == 1 { "" } else { "s" };
     format!("{number} {thing}{s}")
+}
+
+/// `a`, `a and b`, `a, b and c`.
+pub fn listed<T: AsRef<str>>(things: &[T]) -> String {
+    let things: Vec<&str> = things.iter().map(AsRef::as_ref).collect();
+    match things[..] {
+        [] => String::new(),
+        [thing] => thing.to_string(),
+        [ref others @ .., last] => format!("{} and {last}", others.join(", ")),
+    }
 }

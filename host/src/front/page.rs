@@ -1,13 +1,17 @@
 //! `page`: the club's page, one HTML file.
 
+mod area;
 mod board;
 mod cell;
 mod facts;
+mod fate;
 mod grid;
 mod html;
 mod index;
 mod label;
+mod left;
 mod messages;
+mod top;
 mod word;
 
 use std::io::{self, BufWriter, Write};
@@ -57,15 +61,15 @@ pub fn write_page(out: &mut dyn Write, title: &str, board: &Board) -> io::Result
          <meta http-equiv=\"Content-Security-Policy\" content=\"{POLICY}\">\n\
          <title>{heading}</title>\n<style>\n{STYLE}</style>\n</head>\n<body>\n"
     )?;
-    index::write_header(out, &title, board)?;
+    top::write_header(out, &title, board)?;
     if board.refused_area().is_none() {
         index::write_index(out, board)?;
-        index::write_key(out)?;
+        top::write_key(out)?;
         write_owners(out, board)?;
     }
     messages::write_stack(out, board)?;
     messages::write_refused(out, board)?;
-    index::write_area(out, board)?;
+    area::write_area(out, board)?;
     writeln!(out, "</body>\n</html>")
 }
 

@@ -1,5 +1,7 @@
 //! The proved terminal in the middle of a trace.
 
+use super::outcome::Outcome;
+use super::used::Used;
 use crate::engine::{self, Walk};
 use crate::terminal::cells::Kind;
 use crate::terminal::described::{CellDescription, StackDescription};
@@ -8,6 +10,23 @@ use crate::terminal::who::Origin;
 use crate::terminal::writes::Part;
 use crate::terminal::{Answer, MessageRef, Remembered, Settings};
 
+/// A data word that a message stored or sent.
+#[derive(Clone, Copy, Debug, PartialEq, Eq)]
+pub struct Moved {
+    pub address: usize,
+    pub word: u16,
+    /// Who had written it last when the message was done: where it was stored,
+    /// the message itself.
+    pub origin: Option<Origin>,
+    /// How that message went, where it is known.
+    pub came: Option<Outcome>,
+}
+
+/// Where words lie, in their order.
+pub fn places(words: &[Moved]) -> Vec<usize> {
+    words.iter().map(|word| word.address).collect()
+}
+
 pub struct Replay {
     pub settings: Settings,
     pub ram: Vec<u16>,
@@ -15,6 +34,8 @@ pub struct Replay {
     remembered: Remembered,
     /// Whole records met so far, refused ones too.
     pub records: u64,
+    /// The cells that had an accepted message.
+    pub used: Used,
     /// Who wrote each word, where that is asked for and the settings are good.
     pub walk: Option<Walk>,
 }
@@ -27,6 +48,7 @@ impl Replay {
             reply: [0; REPLY_WORDS],
             remembered: Remembered::default(),
             records: 0,
+            used: Used::default(),
             walk: None,
         }
     }
@@ -51,6 +73,9 @@ impl Replay {
         );
         self.remembered = remembered;
         self.records += 1;
+        if answer.number == 0 {
+            self.used.by(answer.cell);
+        }
         if let Some(walk) = &mut self.walk {
             walk.record(bytes);
         }
@@ -79,17 +104,24 @@ impl Replay {
         stack.expect("RAM and settings are not refused")
     }
 
-    /// Where the data words of the message that was just accepted lie, in
-    /// their order: those that it stored, or else those that it sent.
-    pub fn places(&self, answer: &Answer) -> Vec<usize> {
+    /// The data words of the message that was just accepted, in their order:
+    /// those that it stored, or else those that it sent.
+    pub fn moved(&self, answer: &Answer) -> Vec<Moved> {
         let cell = self.cell_of(answer);
-        let places = from_pointer(&cell);
+        let words = from_pointer(&cell).map(|address| Moved {
+            address,
+            word: self.ram[address],
+            origin: self.origin(address),
+            came: None,
+        });
         if cell.kind == Kind::Transmit {
-            places.take(answer.sent.into()).collect()
+            let sent = self.reply[1..].iter().take(answer.sent.into());
+            let words = words.zip(sent);
+            words.map(|(it, &word)| Moved { word, ..it }).collect()
         } else {
-            let stored = places.zip(1..);
-            let stored = stored.take_while(|&(address, place)| self.just_stored(address, place));
-            stored.map(|(address, _)| address).collect()
+            let stored = words.zip(1..);
+            let stored = stored.take_while(|(word, place)| self.just_stored(word, *place));
+            stored.map(|(word, _)| word).collect()
         }
     }
 
@@ -99,8 +131,8 @@ impl Replay {
         walk.who(address as u16).ok().flatten()
     }
 
-    fn just_stored(&self, address: usize, place: u16) -> bool {
-        self.origin(address).map_or(false, |origin| {
+    fn just_stored(&self, word: &Moved, place: u16) -> bool {
+        word.origin.map_or(false, |origin| {
             origin.record == self.records && origin.part == Part::Data(place)
         })
     }

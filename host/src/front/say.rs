@@ -1,6 +1,7 @@
 //! The terminal's words and numbers in plain language.
 
 use super::names::{count, subaddress_name};
+use super::outcome::{Outcome, Trouble};
 use crate::terminal::layout::{broken_rules, Rule};
 use crate::terminal::records::{
     Record, FLAG_BUS_B, FLAG_GAP, FLAG_INVALID_WORD, FLAG_NO_STATUS, FLAG_SECOND, FLAG_WRONG_SYNC,
@@ -50,9 +51,6 @@ const INTERRUPT: &Bits = &[
     (0x0003, "message done"),
 ];
 
-/// Any fault.
-pub const FAULT: u16 = 0x1000;
-pub const ILLEGAL: u16 = 0x0040;
 const ROLLOVER: u16 = 0x0080;
 
 /// Each bit that is set, with its digits.
@@ -85,21 +83,6 @@ pub fn status(word: u16) -> String {
         parts.push("all well".into());
     }
     parts.join(", ")
-}
-
-/// Whether an accepted message was good: no fault, and not illegal.
-pub fn is_good(block_status: u16) -> bool {
-    block_status & (FAULT | ILLEGAL) == 0
-}
-
-/// One word or two for how an accepted message went.
-pub fn verdict(block_status: u16) -> &'static str {
-    match (block_status & FAULT != 0, block_status & ILLEGAL != 0) {
-        (false, false) => "good",
-        (true, false) => "faulty",
-        (false, true) => "illegal",
-        (true, true) => "faulty and illegal",
-    }
 }
 
 pub fn rolled_over(block_status: u16) -> bool {
@@ -162,14 +145,33 @@ fn transfer_faults(record: &Record) -> Vec<String> {
     wrong
 }
 
-/// How a message went on the bus: what was heard, and what was wrong with it.
-pub fn heard(record: &Record, block_status: u16) -> String {
+/// How a message went: what was heard on the bus, what was wrong with it, and
+/// whether the terminal could take it.
+pub fn heard(record: &Record, outcome: &Outcome, settings: &Settings) -> String {
+    let mut wrong = transfer_faults(record);
+    wrong.extend(word_faults(record, outcome.block_status));
+    if outcome.has(Trouble::Illegal) {
+        wrong.push("the illegal table forbids this command".into());
+    }
+    if outcome.has(Trouble::Busy) {
+        wrong.push(why_busy(settings).into());
+    }
+    let verdict = outcome.verdict();
+    if wrong.is_empty() {
+        verdict
+    } else {
+        format!("{verdict} ({})", wrong.join(" and "))
+    }
+}
+
+/// What was wrong with the words, or with asking for them.
+fn word_faults(record: &Record, block_status: u16) -> Vec<String> {
     let expected = Command(record.command).expected_words();
     let words = match record.count {
         TOO_MANY => "more than 32 words".to_string(),
         number => count(number.into(), "good word"),
     };
-    let mut wrong = transfer_faults(record);
+    let mut wrong = Vec::new();
     if block_status & 0x0020 != 0 {
         wrong.push(format!("{words} came and {expected} were expected"));
     }
@@ -182,14 +184,14 @@ pub fn heard(record: &Record, block_status: u16) -> String {
     if block_status & 0x0001 != 0 {
         wrong.push("nobody can answer a broadcast".into());
     }
-    if block_status & ILLEGAL != 0 {
-        wrong.push("the illegal table forbids this command".into());
-    }
-    let verdict = verdict(block_status);
-    if wrong.is_empty() {
-        verdict.to_string()
+    wrong
+}
+
+fn why_busy(settings: &Settings) -> &'static str {
+    if settings.busy_always {
+        "busy-always is on"
     } else {
-        format!("{verdict} ({})", wrong.join(" and "))
+        "the busy table marks this subaddress"
     }
 }
 

@@ -142,9 +142,9 @@ fn how(history: &History, origin: &Origin, address: usize) -> String {
     match origin.part {
         Part::Data(_) => {
             let facts = history.facts(address);
-            let verdict = match say::verdict(facts.block_status) {
-                "good" => String::new(),
-                bad => format!(", {bad}"),
+            let verdict = match facts.outcome.is_good() {
+                true => String::new(),
+                false => format!(", {}", facts.outcome.verdict()),
             };
             let transfer = say::transfer(facts.transmit_command);
             format!(", tag {:04X}{transfer}{verdict}", facts.tag)

@@ -19,6 +19,25 @@ const STRANGE: &str = "owner 3 <script>fetch('//x')</script> & \"Co\" 'n <b>sons
     message 2863 words 1 2 3\\nmessage 2884 words 4 5 6\\nmessage 28A1 words 7 tag 9\\n\
     message F8A2 words 8 9\\nmessage 3061 words 1\\nraw 01\\n";
 
+/// The lists of a card, which paper has too, and its facts.
+const LISTS: [&str; 3] = ["run ", "label ", "note "];
+const FACTS: [&str; 4] = [
+    "Newest message",
+    "Newest good one",
+    "What record",
+    "Left behind",
+];
+
+/// What paper must show of a line.
+fn on_paper(line: &str) -> Option<&str> {
+    let listed = LISTS.iter().find_map(|list| line.strip_prefix(list));
+    listed.or_else(|| {
+        let (name, fact) = line.split_once(": ")?;
+        let is_fact = FACTS.iter().any(|fact| name.starts_with(fact));
+        is_fact.then_some(fact)
+    })
+}
+
 fn shell(line: &str) -> String {
     let said = run(line);
     assert_eq!(said.status, 0, "{line}: {}", said.errors);
@@ -99,12 +118,8 @@ fn holds(name: &str, text: &str) {
     let printed = printed(name);
     let mut looked_for = 0;
     for line in desk.lines().map(str::trim) {
-        let listed = line.strip_prefix("run ").or(line.strip_prefix("label "));
-        if let Some(listed) = listed {
-            assert!(
-                printed.contains(&letters(listed)),
-                "{name}, printed: {listed}"
-            );
+        if let Some(told) = on_paper(line) {
+            assert!(printed.contains(&letters(told)), "{name}, printed: {told}");
             looked_for += 1;
         }
     }
@@ -115,7 +130,7 @@ fn holds(name: &str, text: &str) {
 /// the other.
 #[test]
 fn pages_show_what_is_stored() {
-    for sample in ["pointer", "owners", "bad", "transfers"] {
+    for sample in ["pointer", "owners", "bad", "saturday", "transfers"] {
         holds(sample, &format!("examples/{sample}.txt"));
     }
     shell(&format!(

@@ -65,12 +65,19 @@ fn the_commands_print_what_is_shown() {
             commands += 1;
         }
     }
-    assert_eq!(commands, 14);
+    assert_eq!(commands, 18);
 }
 
 #[test]
 fn the_samples_are_those_under_examples() {
-    for sample in ["pointer", "owners", "bad", "transfers", "trainer"] {
+    for sample in [
+        "pointer",
+        "owners",
+        "bad",
+        "saturday",
+        "transfers",
+        "trainer",
+    ] {
         let text = read(&format!("examples/{sample}.txt"));
         assert!(blocks(&guide()).contains(&text), "{sample}");
     }

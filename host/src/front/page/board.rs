@@ -3,20 +3,18 @@
 use std::collections::VecDeque;
 
 use crate::engine;
-use crate::front::explain::why_refused;
+use crate::front::explain::{asked_cell, why_refused};
 use crate::front::history::{Facts, History};
 use crate::front::names::{cell_number, kind_of, KINDS};
 use crate::front::problem::Problem;
-use crate::front::replay::Replay;
-use crate::front::say;
+use crate::front::replay::{Moved, Replay};
+use crate::front::sharing::{CellSharing, Region, Sharing};
 use crate::front::source::Source;
+use crate::front::used::CELLS;
 use crate::terminal::cells::Kind;
-use crate::terminal::label::{AreaLabel, Sharer};
-use crate::terminal::{Answer, Record, Settings};
+use crate::terminal::label::AreaLabel;
+use crate::terminal::{refusal, Answer, Record, Settings};
 use crate::text::Owners;
-
-/// Cells are numbered below this.
-const CELLS: usize = 96;
 
 /// How many refused messages are told one by one.
 pub const REFUSED_SHOWN: usize = 16;
@@ -26,15 +24,15 @@ pub const REFUSED_SHOWN: usize = 16;
 pub struct Message {
     pub record: u64,
     pub facts: Facts,
-    /// Where its words were stored, or sent from.
-    pub places: Vec<usize>,
+    /// The words that it stored or sent, in their order.
+    pub words: Vec<Moved>,
 }
 
 /// The newest messages of a cell.
 #[derive(Clone, Debug, Default)]
 pub struct Newest {
     pub any: Option<Message>,
-    /// The newest without fault, and not illegal.
+    /// The newest whose words arrived as they were meant to.
     pub good: Option<Message>,
 }
 
@@ -53,6 +51,8 @@ pub struct Board {
     /// The last refused records, oldest first.
     pub refused: VecDeque<Refused>,
     pub refused_in_all: u64,
+    /// For each unsound cell, how many of its messages were refused for that.
+    refused_of: [u64; CELLS],
     /// The short tail behind the last record.
     pub tail: usize,
     /// The whole-area check: number and lowest unsound cell.
@@ -74,6 +74,7 @@ impl Board {
             newest: vec![Newest::default(); CELLS],
             refused: VecDeque::new(),
             refused_in_all: 0,
+            refused_of: [0; CELLS],
             tail: 0,
         };
         while let Some(bytes) = source.next_record()? {
@@ -85,19 +86,19 @@ impl Board {
 
     fn record(&mut self, bytes: &[u8]) {
         match self.history.message(bytes) {
-            (answer, Some((facts, places))) => self.accepted(&answer, facts, places),
+            (answer, Some((facts, words))) => self.accepted(&answer, facts, words),
             (answer, None) => self.refused(bytes, answer.number),
         }
     }
 
-    fn accepted(&mut self, answer: &Answer, facts: Facts, places: Vec<usize>) {
+    fn accepted(&mut self, answer: &Answer, facts: Facts, words: Vec<Moved>) {
         let message = Message {
             record: self.history.replay.records,
             facts,
-            places,
+            words,
         };
         let newest = &mut self.newest[usize::from(answer.cell)];
-        if say::is_good(facts.block_status) {
+        if facts.outcome.is_good() {
             newest.good = Some(message.clone());
         }
         newest.any = Some(message);
@@ -105,6 +106,10 @@ impl Board {
 
     fn refused(&mut self, bytes: &[u8], number: u16) {
         self.refused_in_all += 1;
+        if number == refusal::CELL {
+            let cell = asked_cell(bytes, self.settings());
+            self.refused_of[usize::from(cell)] += 1;
+        }
         if self.refused.len() == REFUSED_SHOWN {
             self.refused.pop_front();
         }
@@ -154,14 +159,34 @@ impl Board {
         self.label.as_ref().map_or(&[], |label| &label.unsound)
     }
 
-    /// Pairs of cells that share words.
-    pub fn pairs(&self) -> &[(u16, u16)] {
-        self.label.as_ref().map_or(&[], |label| &label.pairs)
+    /// How many messages were refused since their cell, this one, is unsound.
+    pub fn refused_of(&self, cell: u16) -> u64 {
+        self.refused_of[usize::from(cell)]
+    }
+
+    /// How many pairs of cells share words.
+    pub fn pairs(&self) -> usize {
+        self.label.as_ref().map_or(0, |label| label.pairs.len())
+    }
+
+    fn sharing(&self) -> Sharing<'_> {
+        Sharing {
+            ram: self.ram(),
+            settings: self.settings(),
+            owners: &self.owners,
+            used: &self.history.replay.used,
+        }
     }
 
     /// Who shares a sound cell's window.
-    pub fn sharers(&self, cell: u16) -> Vec<Sharer> {
-        engine::label_cell(self.ram(), self.settings(), cell).unwrap_or_default()
+    pub fn sharers(&self, cell: u16) -> CellSharing {
+        self.sharing().of_cell(cell).unwrap_or_default()
+    }
+
+    /// The runs of words that are shared.
+    pub fn shared(&self) -> Vec<Region> {
+        let label = self.label.as_ref();
+        label.map_or_else(|_| Vec::new(), |label| self.sharing().of_area(label))
     }
 
     /// The cells of a subaddress.
@@ -194,21 +219,9 @@ impl Board {
         owners
     }
 
-    /// For each word of a message that stands no longer, the cell of the
-    /// message that wrote over it.
-    pub fn overwriters(&self, message: &Message) -> Vec<u16> {
-        let origins = message
-            .places
-            .iter()
-            .map(|&it| self.history.replay.origin(it));
-        let others = origins.flatten().filter(|it| it.record != message.record);
-        others.map(|origin| origin.cell).collect()
-    }
-
     /// Whether two cells have the same owner.
     pub fn same_owner(&self, a: u16, b: u16) -> bool {
-        let owner = |cell: u16| self.owners.of(cell % 32);
-        owner(a).is_some() && owner(a) == owner(b)
+        self.sharing().same_owner(a, b)
     }
 
     /// Whether a cell stores words.

@@ -3,13 +3,15 @@
 use std::io::{self, Write};
 
 use super::board::{Board, Message};
-use super::html::{self, code};
-use crate::front::names::{count, runs};
+use super::fate::{lost, sent_lines};
+use super::html::{self, code, places};
+use super::left::{left_behind, tell_left};
+use crate::front::names::count;
+use crate::front::replay;
 use crate::front::say;
 
 /// Where the pointer stands, and the newest messages.
 pub fn write_facts(out: &mut dyn Write, board: &Board, cell: u16, pointer: u16) -> io::Result<()> {
-    let newest = board.newest(cell);
     let next = if board.stores(cell) {
         "the next message\u{2019}s words go here"
     } else {
@@ -17,70 +19,68 @@ pub fn write_facts(out: &mut dyn Write, board: &Board, cell: u16, pointer: u16) 
     };
     let pointer = code(&format!("{pointer:04X}"));
     writeln!(out, "<dl>\n<dt>Pointer now</dt><dd>{pointer}, {next}</dd>")?;
-    write!(out, "<dt>Newest message</dt><dd>")?;
-    match &newest.any {
-        None => writeln!(out, "none in this trace</dd>")?,
-        Some(message) => {
-            write_message(out, board, cell, message)?;
-            writeln!(out, "</dd>")?;
-            if !say::is_good(message.facts.block_status) {
-                write!(out, "<dt>Newest good one</dt><dd>")?;
-                match &newest.good {
-                    None => write!(out, "none in this trace")?,
-                    Some(good) => write_message(out, board, cell, good)?,
-                }
-                writeln!(out, "</dd>")?;
-            }
-        }
+    write_newest(out, board, cell)?;
+    for left in left_behind(board, cell) {
+        let told = tell_left(&left, usize::MAX);
+        writeln!(out, "<dt>Left behind</dt><dd>{told}</dd>")?;
     }
     writeln!(out, "</dl>")
 }
 
-fn write_message(
-    out: &mut dyn Write,
-    board: &Board,
-    cell: u16,
-    message: &Message,
-) -> io::Result<()> {
-    write!(
-        out,
+/// The newest message, the newest good one where that is another, and what the
+/// good one sent.
+fn write_newest(out: &mut dyn Write, board: &Board, cell: u16) -> io::Result<()> {
+    let newest = board.newest(cell);
+    let message = match &newest.any {
+        None => return writeln!(out, "<dt>Newest message</dt><dd>none in this trace</dd>"),
+        Some(message) => message,
+    };
+    let told = tell(board, cell, message);
+    writeln!(out, "<dt>Newest message</dt><dd>{told}</dd>")?;
+    if !message.facts.outcome.is_good() {
+        let told = match &newest.good {
+            None => "none in this trace".to_string(),
+            Some(good) => tell(board, cell, good),
+        };
+        writeln!(out, "<dt>Newest good one</dt><dd>{told}</dd>")?;
+    }
+    match &newest.good {
+        Some(good) if !board.stores(cell) => write_sent(out, board, cell, good),
+        _ => Ok(()),
+    }
+}
+
+fn tell(board: &Board, cell: u16, message: &Message) -> String {
+    format!(
         "record {}, tag <code>{:04X}</code>{}, {}; {}",
         message.record,
         message.facts.tag,
         say::transfer(message.facts.transmit_command),
-        html::went(message.facts.block_status),
+        html::went(&message.facts.outcome),
         whereabouts(board, cell, message)
     )
 }
 
 /// Where a message's words are, and what became of them.
 fn whereabouts(board: &Board, cell: u16, message: &Message) -> String {
-    let words = count(message.places.len() as u64, "word");
-    let at = code(&runs(&message.places));
-    match (board.stores(cell), message.places.is_empty()) {
-        (true, true) => "it stored no word".to_string(),
-        (false, true) => "it sent no word".to_string(),
-        (false, false) => format!("it sent {words} from {at}"),
-        (true, false) => format!("its {words} at {at}{}", lost(board, message)),
+    let outcome = &message.facts.outcome;
+    if let Some(none) = outcome.no_word() {
+        return none;
+    }
+    let words = count(message.words.len() as u64, "word");
+    let at = places(&replay::places(&message.words), usize::MAX);
+    if !board.stores(cell) {
+        return format!("it sent {words} from {at}");
+    }
+    let lost = lost(board, cell, message);
+    match outcome.is_good() {
+        true => format!("its {words} at {at}{lost}"),
+        false => format!("its {words} at {at}, stored all the same{lost}"),
     }
 }
 
-/// How many words of a message stand no longer, and who wrote over them.
-fn lost(board: &Board, message: &Message) -> String {
-    let overwriters = board.overwriters(message);
-    let mut cells = overwriters.clone();
-    cells.sort_unstable();
-    cells.dedup();
-    let names: Vec<String> = cells
-        .iter()
-        .map(|&it| html::cell(&board.owners, it))
-        .collect();
-    let by = names.join(", ");
-    match overwriters.len() {
-        0 => String::new(),
-        lost if lost == message.places.len() => {
-            format!(", <b class=\"lost\">all overwritten since by {by}</b>")
-        }
-        lost => format!(", <b class=\"lost\">{lost} of them overwritten since by {by}</b>"),
-    }
+fn write_sent(out: &mut dyn Write, board: &Board, cell: u16, message: &Message) -> io::Result<()> {
+    write!(out, "<dt>What record {} sent</dt><dd>", message.record)?;
+    let lines = sent_lines(board, cell, message);
+    writeln!(out, "{}</dd>", lines.join("<br>"))
 }

@@ -99,7 +99,8 @@ fn rows(words: &[Word]) -> Vec<Range<usize>> {
 
 fn is_empty(words: &[Word]) -> bool {
     words.iter().all(|word| {
-        word.mark == Mark::Image && !word.is_next && !word.is_sent && word.word == words[0].word
+        let plain = word.mark == Mark::Image && !word.is_next && word.sent_by.is_none();
+        plain && word.word == words[0].word
     })
 }
 
@@ -113,10 +114,10 @@ fn write_word(out: &mut dyn Write, board: &Board, word: &Word, others: &[u16]) -
         word.word,
         tell(board, word, word)
     );
-    if word.is_sent {
+    if let Some(record) = word.sent_by {
         classes += " sent";
         signs += "\u{2191}";
-        told += "; sent by the newest message";
+        told += &format!("; sent by record {record}");
     }
     if word.is_next {
         classes += " next";

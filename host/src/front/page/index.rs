@@ -1,59 +1,17 @@
-//! The top and the foot of the page: what it is about, who is on it, what the
-//! marks mean, and what the whole area shares.
+//! The index: a line for each cell, from which a member learns what he must
+//! know of it, and a way to its section.
 
 use std::io::{self, Write};
 
-use super::board::Board;
-use super::html::{self, cell, escape, name};
-use crate::front::names::{addresses, bare_cell_name, cell_runs, count};
-use crate::front::say;
-use crate::front::soundness::stack_faults;
+use super::board::{Board, Message};
+use super::fate::{lost, not_good_sent, others_sent};
+use super::html::{self, cell, name};
+use super::left::{left_behind, tell_left, tell_others};
+use crate::front::names::{bare_cell_name, count, listed, subaddress_of};
 
-pub fn write_header(out: &mut dyn Write, title: &str, board: &Board) -> io::Result<()> {
-    let settings = board.settings();
-    let records = board.records();
-    let accepted = records - board.refused_in_all;
-    let area = if settings.area_b { 'B' } else { 'A' };
-    let off = if settings.broadcast {
-        ""
-    } else {
-        ", broadcast off"
-    };
-    let terminal = format!("Terminal {}, area {area}{off}", settings.address);
-    writeln!(out, "<header>\n<h1>{title}</h1>")?;
-    write!(out, "<p>{terminal}, after {} ", count(records, "message"))?;
-    write!(
-        out,
-        "({accepted} accepted, {} refused)",
-        board.refused_in_all
-    )?;
-    writeln!(
-        out,
-        " of <span class=\"file\">{}</span></p>",
-        escape(&board.file)
-    )?;
-    if board.tail > 0 {
-        let tail = count(board.tail as u64, "byte");
-        writeln!(
-            out,
-            "<p>Behind them is a tail of {tail}, which is no record.</p>"
-        )?;
-    }
-    if let Some(number) = board.refused_area() {
-        let mut why = say::refusal(number, settings).to_string();
-        if number == 8 {
-            why += &format!(": {}", stack_faults(board.ram(), settings).join(" and "));
-        }
-        writeln!(
-            out,
-            "<p class=\"unsound\"><b>No message can be accepted</b>, since {} ({number}).</p>",
-            escape(&why)
-        )?;
-    }
-    writeln!(out, "</header>")
-}
+/// The most runs of addresses that one line tells.
+const RUNS: usize = 4;
 
-/// A line for each cell, with a way to its section.
 pub fn write_index(out: &mut dyn Write, board: &Board) -> io::Result<()> {
     let owner = match board.owners.is_empty() {
         true => "",
@@ -62,104 +20,110 @@ pub fn write_index(out: &mut dyn Write, board: &Board) -> io::Result<()> {
     writeln!(
         out,
         "<nav>\n<table class=\"index\">\n<thead><tr>{owner}<th>Subaddress</th>\
-         <th>Newest message</th><th>Shared with</th></tr></thead>\n<tbody>"
+         <th>Newest message, and what stands there</th><th>Shared with</th></tr></thead>\n<tbody>"
     )?;
     for (owner, subaddresses) in board.by_owner() {
-        let cells = subaddresses.into_iter().flat_map(|it| board.cells_of(it));
-        for number in cells.filter(|cell| !board.unsound().contains(cell)) {
-            let owner = owner.map_or(String::new(), |it| format!("<td>{}</td>", name(it)));
-            writeln!(
-                out,
-                "<tr>{owner}<td><a href=\"#cell{number}\">{}</a></td><td>{}</td><td>{}</td></tr>",
-                bare_cell_name(number),
-                newest(board, number),
-                shared_with(board, number)
-            )?;
+        let owner = owner.map_or(String::new(), |it| format!("<td>{}</td>", name(it)));
+        for number in subaddresses.into_iter().flat_map(|it| board.cells_of(it)) {
+            if let Some(line) = line(board, number) {
+                writeln!(out, "<tr>{owner}{line}</tr>")?;
+            }
         }
     }
     writeln!(out, "</tbody>\n</table>\n</nav>")
 }
 
-/// A cell's newest message, and whether its words still stand.
-fn newest(board: &Board, number: u16) -> String {
-    let message = match &board.newest(number).any {
-        None => return "none".to_string(),
-        Some(message) => message,
+/// What is told of a cell. One that is unsound is left out, unless messages
+/// came for it.
+fn line(board: &Board, number: u16) -> Option<String> {
+    let cell = bare_cell_name(number);
+    if !board.unsound().contains(&number) {
+        return Some(format!(
+            "<td><a href=\"#cell{number}\">{cell}</a></td><td>{}</td><td>{}</td>",
+            told(board, number),
+            shared_with(board, number)
+        ));
+    }
+    let refused = match board.refused_of(number) {
+        0 => return None,
+        refused => count(refused, "message"),
     };
-    let lost = match board.overwriters(message).len() {
-        _ if !board.stores(number) => "",
-        0 => "",
-        lost if lost == message.places.len() => ", <b class=\"lost\">overwritten</b>",
-        _ => ", <b class=\"lost\">partly overwritten</b>",
-    };
-    let verdict = html::verdict(message.facts.block_status);
-    format!("record {}, {verdict}{lost}", message.record)
+    let section = subaddress_of(number);
+    Some(format!(
+        "<td><a href=\"#sa{section}\">{cell}</a></td>\
+         <td><b class=\"bad\">unsound</b>: {refused} refused</td><td>takes no part</td>"
+    ))
 }
 
-/// The most cells that are named in a line of the index.
-const NAMED: usize = 3;
+/// How the newest message went, and all that could be taken for its words.
+fn told(board: &Board, number: u16) -> String {
+    let newest = board.newest(number);
+    let mut lines = Vec::new();
+    match &newest.any {
+        None => lines.push("none".to_string()),
+        Some(message) => {
+            lines.push(tell(board, number, message));
+            lines.extend(newest_good(board, number, message));
+        }
+    }
+    let left = left_behind(board, number);
+    lines.extend(left.iter().map(|left| tell_left(left, RUNS)));
+    lines.extend(tell_others(board, number, RUNS));
+    lines.join("<br>")
+}
 
-fn shared_with(board: &Board, number: u16) -> String {
-    let sharers = board.sharers(number);
-    let others = sharers.iter().map(|sharer| sharer.cell);
-    let others = others.filter(|&other| !board.same_owner(number, other));
+/// Where the newest message was not good, the newest one that was.
+fn newest_good(board: &Board, number: u16, newest: &Message) -> Option<String> {
+    if newest.facts.outcome.is_good() {
+        return None;
+    }
+    Some(match &board.newest(number).good {
+        None => "no good one before it".to_string(),
+        Some(good) => format!("before it {}", tell(board, number, good)),
+    })
+}
+
+/// How a message went, why it moved no word, whose words it sent, and whether
+/// they stand.
+fn tell(board: &Board, number: u16, message: &Message) -> String {
+    let outcome = &message.facts.outcome;
+    let mut text = format!("record {}, {}", message.record, html::verdict(outcome));
+    if let Some(none) = outcome.no_word() {
+        text += &format!("; {none}");
+    }
+    if !board.stores(number) {
+        text += &what_it_sent(board, number, message);
+    }
+    text + &lost(board, number, message)
+}
+
+/// Whether a message sent words of others, or words that were not good.
+fn what_it_sent(board: &Board, number: u16, message: &Message) -> String {
+    let others = others_sent(board, number, message).into_iter();
     let others: Vec<String> = others.map(|other| cell(&board.owners, other)).collect();
+    let whose = format!("words for {}", listed(&others));
+    let whose = (!others.is_empty()).then_some(whose);
+    let bad = not_good_sent(message).into_iter();
+    let bad = bad.map(|verdict| format!("{verdict} words"));
+    let sent = whose.into_iter().chain(bad);
+    sent.map(|what| format!(", <b class=\"lost\">sent {what}</b>"))
+        .collect()
+}
+
+/// Those who are owned or used, each, and how many others there are.
+fn shared_with(board: &Board, number: u16) -> String {
+    let sharing = board.sharers(number);
+    let others = sharing.named.iter().map(|named| named.cell);
+    let others = others.filter(|&other| !board.same_owner(number, other));
+    let mut others: Vec<String> = others.map(|other| cell(&board.owners, other)).collect();
+    let quiet: usize = sharing.quiet.iter().map(|quiet| quiet.cells.len()).sum();
+    if quiet > 0 {
+        let cells = count(quiet as u64, "cell");
+        others.push(format!("{cells} never used and unowned"));
+    }
     match others.len() {
-        0 if sharers.is_empty() => "nobody".to_string(),
+        0 if sharing.is_empty() => "nobody".to_string(),
         0 => "the same owner".to_string(),
-        many if many > NAMED && board.owners.is_empty() => format!("{many} cells"),
-        many if many > NAMED => format!("{many} cells of others"),
         _ => others.join(", "),
     }
-}
-
-/// What the marks mean.
-pub fn write_key(out: &mut dyn Write) -> io::Result<()> {
-    out.write_all(KEY.as_bytes())
-}
-
-const KEY: &str = "<section class=\"key\">
-<h2>What the letters mean</h2>
-<p>A subaddress is a moving pointer and not a place: look where the words came from.</p>
-<ul>
-<li><i class=\"n\">N</i> the newest good message of this subaddress</li>
-<li><i class=\"o\">O</i> an older good message of this subaddress</li>
-<li><i class=\"f\">F</i> a faulty or illegal message of this subaddress, which left its words behind</li>
-<li><i class=\"x\">a</i> <i class=\"x\">b</i> another cell: its owner is named beside the words</li>
-<li><i class=\"i\">I</i> as in the image: it was there before this trace</li>
-<li><i class=\"next\">\u{2192}</i> the pointer stands here now: the next message begins here</li>
-<li><i class=\"sent\">\u{2191}</i> sent by the newest message of a subaddress that sends</li>
-</ul>
-</section>
-";
-
-/// What the whole area shares, and what is unsound in it.
-pub fn write_area(out: &mut dyn Write, board: &Board) -> io::Result<()> {
-    writeln!(out, "<section class=\"area\">\n<h2>The whole area</h2>")?;
-    match board.check.0 {
-        0 => {
-            let stack = addresses(&board.history.replay.stack().block);
-            writeln!(out, "<p>The stack {stack} and every cell are sound.</p>")?;
-        }
-        9 => {
-            let cells = cell_runs(board.unsound());
-            writeln!(out, "<p class=\"unsound\">Unsound: {cells}.</p>")?;
-        }
-        number => {
-            let why = escape(say::refusal(number, board.settings()));
-            writeln!(
-                out,
-                "<p class=\"unsound\">Refused with {number}: {why}.</p>"
-            )?;
-        }
-    }
-    if board.refused_area().is_none() {
-        let pairs = match board.pairs().len() {
-            0 => "No two cells share a word.".to_string(),
-            1 => "1 pair of cells shares words.".to_string(),
-            pairs => format!("{pairs} pairs of cells share words."),
-        };
-        writeln!(out, "<p>{pairs}</p>")?;
-    }
-    writeln!(out, "</section>")
 }

@@ -1,74 +1,57 @@
-//! The label of a cell: who shares its words.
+//! The label of a cell: who shares its words. It is yellow where another
+//! owner's cell or one in use can write there, and else a quiet note.
 
 use std::io::{self, Write};
 
 use super::board::Board;
-use super::html::{self, code};
-use crate::front::names::{addresses, cell_runs, subaddress_of};
-use crate::terminal::label::Sharer;
+use super::html::{self, code, HtmlPen};
+use crate::front::names::addresses;
+use crate::front::sharing::words::quiet_line;
+use crate::front::sharing::{CellSharing, Named};
 
 /// Which other cells share words of this window; nothing where none does.
 pub fn write_label(out: &mut dyn Write, board: &Board, cell: u16) -> io::Result<()> {
-    let sharers = board.sharers(cell);
-    if sharers.is_empty() {
+    let sharing = board.sharers(cell);
+    if sharing.is_empty() {
         return Ok(());
     }
-    writeln!(out, "<aside class=\"label\">")?;
-    let whole = sharers
-        .iter()
-        .all(|sharer| board.same_owner(cell, sharer.cell));
-    let who = if whole {
-        "with cells of the same owner"
-    } else {
-        "with others"
-    };
-    writeln!(
-        out,
-        "<p><b>Shared words.</b> This window is shared {who}:</p>\n<ul>"
-    )?;
-    for group in groups(board, cell, sharers) {
-        let names = match group.cells[..] {
-            [cell] => html::cell(&board.owners, cell),
-            _ => cell_runs(&group.cells) + html::unowned(&board.owners),
-        };
-        let can = if group.writes {
-            "<b>can write</b> at"
-        } else {
-            "only sends"
-        };
-        writeln!(out, "<li>{names} {can} {}</li>", code(&group.words))?;
+    let (class, heading) = heading(board, cell, &sharing);
+    writeln!(out, "<aside class=\"{class}\">\n<p>{heading}:</p>\n<ul>")?;
+    for named in &sharing.named {
+        writeln!(out, "<li>{}</li>", named_line(board, named))?;
+    }
+    for quiet in &sharing.quiet {
+        let line = quiet_line(quiet, &HtmlPen(&board.owners));
+        writeln!(out, "<li>{line}</li>")?;
     }
     writeln!(out, "</ul>\n</aside>")
 }
 
-/// Cells that a label tells in one line.
-struct Group {
-    cells: Vec<u16>,
-    writes: bool,
-    /// The words that they share with the cell.
-    words: String,
+fn heading(board: &Board, cell: u16, sharing: &CellSharing) -> (&'static str, &'static str) {
+    let mut warning = sharing.named.iter().filter(|named| named.warns);
+    let of_others = warning.any(|named| !board.same_owner(cell, named.cell));
+    match (sharing.warns(), of_others) {
+        (true, true) => (
+            "label",
+            "<b>Shared words.</b> Cells of others can write in this window",
+        ),
+        (true, false) => (
+            "label",
+            "<b>Shared words.</b> A used cell of the same subaddress or owner can write in this window",
+        ),
+        (false, _) => (
+            "quiet",
+            "Shared, but no other owner\u{2019}s cell and none in use can write in this window",
+        ),
+    }
 }
 
-/// An owned cell has a line of its own; others that can do the same share one.
-fn groups(board: &Board, cell: u16, sharers: Vec<Sharer>) -> Vec<Group> {
-    let window = board.history.replay.cell(cell).window;
-    let owned = |cell: u16| board.owners.of(subaddress_of(cell)).is_some();
-    let mut groups: Vec<Group> = Vec::new();
-    for Sharer { cell, writes } in sharers {
-        let other = board.history.replay.cell(cell).window;
-        let words = addresses(&(window.start.max(other.start)..window.end.min(other.end)));
-        let fits = |group: &&mut Group| {
-            let alike = group.writes == writes && group.words == words;
-            alike && !owned(cell) && !owned(group.cells[0])
-        };
-        match groups.iter_mut().find(fits) {
-            Some(group) => group.cells.push(cell),
-            None => groups.push(Group {
-                cells: vec![cell],
-                writes,
-                words,
-            }),
-        }
+fn named_line(board: &Board, named: &Named) -> String {
+    let name = html::cell(&board.owners, named.cell);
+    let words = code(&addresses(&named.words));
+    match (named.warns, named.writes) {
+        (true, _) => format!("{name} <b>can write</b> at {words}"),
+        (false, true) => format!("{name} can write at {words}, and was never used"),
+        (false, false) => format!("{name} only sends {words}"),
     }
-    groups
 }

@@ -6,6 +6,7 @@ use super::board::{Board, REFUSED_SHOWN};
 use super::html::{self, escape};
 use crate::front::history::entry_before;
 use crate::front::names::{addresses, count};
+use crate::front::outcome::Outcome;
 use crate::front::say;
 use crate::terminal::cells::DESCRIPTOR_WORDS;
 use crate::terminal::described::StackDescription;
@@ -57,17 +58,27 @@ fn last_entries(board: &Board) -> Vec<(u64, usize)> {
 
 fn write_entry(out: &mut dyn Write, board: &Board, record: u64, place: usize) -> io::Result<()> {
     let words = &board.ram()[place..place + DESCRIPTOR_WORDS];
-    let [block_status, tag, pointer, command] = [words[0], words[1], words[2], words[3]];
+    let [tag, pointer, command] = [words[1], words[2], words[3]];
     let message = say::command(command, board.settings(), &board.owners);
-    let transfer = say::transfer(board.history.facts(place).transmit_command);
+    let facts = board.history.facts(place);
+    let transfer = say::transfer(facts.transmit_command);
     let entry = addresses(&(place..place + DESCRIPTOR_WORDS));
     writeln!(
         out,
         "<tr><td>{record}</td><td><code>{tag:04X}</code></td><td>{}</td><td>{}</td>\
          <td><code>{pointer:04X}</code></td><td><code>{entry}</code></td></tr>",
         escape(&(message + &transfer)),
-        html::went(block_status)
+        how_it_went(&facts.outcome)
     )
+}
+
+/// How a message went, and why no word moved where none did.
+fn how_it_went(outcome: &Outcome) -> String {
+    let went = html::went(outcome);
+    match outcome.no_word() {
+        None => went,
+        Some(none) => format!("{went}; {none}"),
+    }
 }
 
 /// The last messages that were refused, oldest first.

@@ -1,8 +1,8 @@
 //! A word of a window: where it comes from, as a mark and in words.
 
 use super::board::{Board, Newest};
+use super::fate::stands;
 use crate::front::names::cell_name;
-use crate::front::say;
 use crate::terminal::who::Origin;
 use crate::terminal::writes::Part;
 
@@ -13,7 +13,7 @@ pub enum Mark {
     Newest,
     /// An older good message of the cell.
     Older,
-    /// A faulty or illegal message of the cell.
+    /// A message of the cell that was not good.
     Faulty,
     /// Another cell's message.
     Other(u16),
@@ -29,18 +29,15 @@ pub struct Word {
     pub origin: Option<Origin>,
     /// The cell's pointer stands here.
     pub is_next: bool,
-    /// The newest message of a cell that only sends sent it.
-    pub is_sent: bool,
+    /// The newest good message of a cell that only sends, where it sent this
+    /// very word: nobody has written there since.
+    pub sent_by: Option<u64>,
 }
 
 /// The words of a sound cell's window.
 pub fn window_words(board: &Board, cell: u16) -> Vec<Word> {
     let view = board.history.replay.cell(cell);
     let newest = board.newest(cell);
-    let sent: &[usize] = match &newest.any {
-        Some(message) if !board.stores(cell) => &message.places,
-        _ => &[],
-    };
     let word = |address: usize| {
         let origin = board.history.replay.origin(address);
         Word {
@@ -49,10 +46,16 @@ pub fn window_words(board: &Board, cell: u16) -> Vec<Word> {
             mark: mark(board, newest, cell, address, &origin),
             origin,
             is_next: address == usize::from(view.pointer),
-            is_sent: sent.contains(&address),
+            sent_by: sent_by(board, newest, cell, address),
         }
     };
     view.window.clone().map(word).collect()
+}
+
+fn sent_by(board: &Board, newest: &Newest, cell: u16, address: usize) -> Option<u64> {
+    let message = newest.good.as_ref().filter(|_| !board.stores(cell))?;
+    let sent = message.words.iter().find(|word| word.address == address)?;
+    stands(board, sent).then_some(message.record)
 }
 
 fn mark(
@@ -66,7 +69,7 @@ fn mark(
         None => return Mark::Image,
         Some(origin) => origin,
     };
-    let good = say::is_good(board.history.facts(address).block_status);
+    let good = board.history.facts(address).outcome.is_good();
     let newest = newest.good.as_ref().map(|message| message.record);
     match (origin.cell == cell, good) {
         (false, _) => Mark::Other(origin.cell),
@@ -93,12 +96,12 @@ pub fn tell(board: &Board, first: &Word, last: &Word) -> String {
     };
     let whose = match first.mark {
         Mark::Newest => "the newest good message".to_string(),
-        Mark::Older => "an older message".to_string(),
-        Mark::Faulty | Mark::Image => format!("{} message", say::verdict(facts.block_status)),
+        Mark::Older => "an older good message".to_string(),
+        Mark::Faulty | Mark::Image => format!("{} message", facts.outcome.verdict()),
         Mark::Other(cell) => {
-            let verdict = match say::verdict(facts.block_status) {
-                "good" => String::new(),
-                bad => format!("{bad}, "),
+            let verdict = match facts.outcome.is_good() {
+                true => String::new(),
+                false => format!("{}, ", facts.outcome.verdict()),
             };
             format!("{verdict}for {}", cell_name(&board.owners, cell))
         }

@@ -49,7 +49,9 @@ function grid(view, table) {
 
 function article(view, part) {
     const lines = [`  cell ${part.dataset.cell}: ${shown(part.querySelector('h4'))}`];
-    part.querySelectorAll('.label li').forEach((item) => lines.push(`    label ${shown(item)}`));
+    for (const [name, what] of [['label', 'label'], ['quiet', 'note']]) {
+        part.querySelectorAll(`.${name} p, .${name} li`).forEach((item) => lines.push(`    ${what} ${shown(item)}`));
+    }
     const facts = part.querySelectorAll('dt');
     facts.forEach((fact) => lines.push(`    ${shown(fact)}: ${shown(fact.nextElementSibling)}`));
     lines.push(...grid(view, part.querySelector('table.words')));
