@@ -24,7 +24,7 @@ fillTests words numbers marks s =
 unfoldable pub fillRefusal : ℕ → ℕ → ℕ → Settings → ℕ
 fillRefusal words numbers marks s = firstOf (fillTests words numbers marks s)
 
--- before tables are asked about an address: they are as long as a RAM; what they hold of it is no entry; "12 for an
+-- before tables are asked about an address: they are not as long as a RAM; what they hold of it is no entry; "12 for an
 -- address beyond the RAM"
 abbrev pub entryTests : List ℕ → List ℕ → ℕ → List Test
 entryTests numbers marks a =
