@@ -75,12 +75,12 @@ fn entry(numbers: &[u64], marks: &[u16], at: usize) -> Result<(u64, [u16; PART_W
     if [numbers.len(), marks.len()] != [RAM_WORDS; 2] {
         return Err(refusal::RAM_LENGTH);
     }
-    let (Some(&record), Some(&mark)) = (numbers.get(at), marks.get(at)) else {
+    if at >= RAM_WORDS {
         return Err(refusal::BEYOND_RAM);
-    };
-    match (record, marked(mark)) {
-        (0, _) if mark == 0 => Ok((0, [0; PART_WORDS])),
-        (1.., Some(part)) => Ok((record, part)),
+    }
+    match (numbers[at], marks[at], marked(marks[at])) {
+        (0, 0, _) => Ok((0, [0; PART_WORDS])),
+        (record @ 1.., _, Some(part)) => Ok((record, part)),
         _ => Err(refusal::RECORD_LAYOUT),
     }
 }
