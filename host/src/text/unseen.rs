@@ -7,7 +7,7 @@ pub fn visible(text: &str) -> String {
     let mut shown = String::with_capacity(text.len());
     for (character, unseen) in looked_at(text) {
         if unseen {
-            shown.extend(spelled(character));
+            shown += &spelled(character);
         } else {
             shown.push(character);
         }
@@ -18,22 +18,16 @@ pub fn visible(text: &str) -> String {
 /// The first character of a text that is not seen, spelled out.
 pub fn first_unseen(text: &str) -> Option<String> {
     let mut unseen = looked_at(text).filter(|(_, unseen)| *unseen);
-    unseen
-        .next()
-        .map(|(character, _)| spelled(character).collect())
+    unseen.next().map(|(character, _)| spelled(character))
 }
 
-fn spelled(character: char) -> impl Iterator<Item = char> {
-    // Control characters have short names, such as `\n`; the others have none.
-    let (short, long) = if character.is_control() {
-        (Some(character.escape_debug()), None)
+fn spelled(character: char) -> String {
+    if character.is_control() {
+        // Some have short names, such as `\n`.
+        character.escape_debug().to_string()
     } else {
-        (None, Some(character.escape_unicode()))
-    };
-    short
-        .into_iter()
-        .flatten()
-        .chain(long.into_iter().flatten())
+        character.escape_unicode().to_string()
+    }
 }
 
 /// The characters of a text, each with whether it is unseen there. One that
