@@ -252,9 +252,20 @@ pub fn check_area(played: &Played, printed: &str, seen: &mut Seen) -> Held {
     let order: Vec<usize> = weights.iter().map(|it| it.1).collect();
     let mut rising = order.clone();
     rising.sort_unstable();
+    for (weight, class) in [
+        "words where another's cell can write",
+        "words where a used cell of the same owner can",
+        "shared words that are harmless",
+        "shared words of nobody",
+    ]
+    .into_iter()
+    .enumerate()
+    {
+        seen.met(class, order.contains(&weight));
+    }
     seen.met(
-        "a label with all weights",
-        (0..4).all(|it| order.contains(&it)),
+        "what matters, and what does not",
+        order.contains(&0) && order.contains(&3),
     );
     tells(
         "what stands first",
