@@ -33,11 +33,12 @@ fn heading(board: &Board, cell: u16, sharing: &CellSharing) -> (&'static str, &'
     match (sharing.warns(), of_others) {
         (true, true) => (
             "label",
-            "<b>Shared words.</b> Cells of others can write in this window",
+            "<b>Shared words.</b> Cells of others can write in this window. It is shared with",
         ),
         (true, false) => (
             "label",
-            "<b>Shared words.</b> A used cell of the same subaddress or owner can write in this window",
+            "<b>Shared words.</b> A used cell of the same subaddress or owner can write in this \
+             window. It is shared with",
         ),
         (false, _) => (
             "quiet",

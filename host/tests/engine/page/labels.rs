@@ -109,6 +109,10 @@ pub fn check_card(played: &Played, number: u16, article: &str, seen: &mut Seen) 
             &format!("{class} {must}"),
         )?;
     }
+    let of_others = |&it: &u16| warns(played, number, it) && !played.same_owner(number, it);
+    let must = named.iter().any(of_others).to_string();
+    let told = article.contains("Cells of others can write in this window");
+    tells(&what, &told.to_string(), &must)?;
     let mut must = Vec::new();
     for &other in &named {
         let words = range(&common(played, number, other));
@@ -252,9 +256,20 @@ pub fn check_area(played: &Played, printed: &str, seen: &mut Seen) -> Held {
     let order: Vec<usize> = weights.iter().map(|it| it.1).collect();
     let mut rising = order.clone();
     rising.sort_unstable();
+    for (weight, class) in [
+        "words where another's cell can write",
+        "words where a used cell of the same owner can",
+        "shared words that are harmless",
+        "shared words of nobody",
+    ]
+    .into_iter()
+    .enumerate()
+    {
+        seen.met(class, order.contains(&weight));
+    }
     seen.met(
-        "a label with all weights",
-        (0..4).all(|it| order.contains(&it)),
+        "what matters, and what does not",
+        order.contains(&0) && order.contains(&3),
     );
     tells(
         "what stands first",
