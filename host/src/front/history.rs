@@ -2,17 +2,19 @@
 
 use std::ops::Range;
 
+use super::heard::{self, Tag};
 use super::names::kind_of;
 use super::replay::Replay;
 use super::say;
-use crate::engine;
 use crate::terminal::cells::{Kind, DESCRIPTOR_WORDS, RAM_WORDS};
 use crate::terminal::Answer;
 
 /// What is kept of a message beside its number.
 #[derive(Clone, Copy, Debug, Default, PartialEq, Eq)]
 pub struct Facts {
-    pub tag: u16,
+    pub tag: Tag,
+    /// The member number of a long record.
+    pub member: Option<u16>,
     pub block_status: u16,
     /// The other terminal's command, where the message was a transfer.
     pub transmit_command: Option<u16>,
@@ -41,11 +43,12 @@ impl History {
         if answer.number != 0 {
             return (answer, None);
         }
-        let record = engine::read_record(bytes).1;
+        let heard = heard::read(bytes).1;
         let facts = Facts {
-            tag: record.tag,
+            tag: heard.tag,
+            member: heard.member,
             block_status: answer.block_status,
-            transmit_command: say::transmit_command(&record),
+            transmit_command: say::transmit_command(&heard.record),
         };
         let places = self.replay.places(&answer);
         if kind_of(answer.cell) != Kind::Transmit {

@@ -4,6 +4,7 @@ use std::io::{self, Write};
 
 use super::board::{Board, Message};
 use super::html::{self, code};
+use crate::front::heard::member;
 use crate::front::names::{count, runs};
 use crate::front::say;
 
@@ -44,9 +45,10 @@ fn write_message(
 ) -> io::Result<()> {
     write!(
         out,
-        "record {}, tag <code>{:04X}</code>{}, {}; {}",
+        "record {}, tag <code>{:04X}</code>{}{}, {}; {}",
         message.record,
         message.facts.tag,
+        html::escape(&member(message.facts.member, &board.owners)),
         say::transfer(message.facts.transmit_command),
         html::went(message.facts.block_status),
         whereabouts(board, cell, message)
