@@ -1,7 +1,7 @@
-/* The proved terminal, for callers in C and Rust. scripts/proved library builds what to link, for x86-64: four archives
+/* The proved terminal, for callers in C and Rust. scripts/proved library builds what to link, for x86-64: five archives
  * in target/built/target/staticlib/, libboundary.a, libboundary_bytes.a (solkverva_message), libboundary_values.a
- * (solkverva_message_value) and libboundary_origins.a (solkverva_who and the two like it). None needs another, so their
- * order is free.
+ * (solkverva_message_value), libboundary_origins.a (solkverva_who and the two like it) and libboundary_long.a (long
+ * records). None needs another, so their order is free.
  *
  * Every function returns, with an answer for any contents and any lengths of what is lent, and writes nothing else.
  *
@@ -13,7 +13,7 @@
  *   - Until it returns, no other thread writes what is lent or reads what the function writes.
  *
  * Some lengths are refused where they are wrong: ram has 4,096 words, no more and no fewer; numbers and marks each as
- * many; reply at least 33; a record that is read 80 bytes, no more and no fewer.
+ * many; reply at least 33; a record that is read 80 bytes, a long one 96, no more and no fewer.
  *
  * All else may have any length. What is missing of settings, remembered, records or value is read as 0. What remembered,
  * answer, value, listing, counts, unsound, pairs, description, records, last, part or the bytes that are written have no
@@ -26,6 +26,7 @@
  * remembered: last command, last status. Both 0 at first; lend each message what the one before left.
  * value: command, time tag, flags, count, thirty-two words, transmit command. A flags or count word over 255 counts as
  *   255, which breaks the layout.
+ * long value: the 37 words of value, then the time tag's upper half and the member number. What is missing is read as 0.
  * answer: number, block status, cell number, pointer before, pointer after, status word, 1 where the status was sent
  *   and else 0, data words sent, interrupt word.
  * listing: how many cells are listed; then two words for each, in rising number: the cell's number, and 1 where it is
@@ -57,6 +58,10 @@
  * data word, alone or together. A record breaks its layout (5) with SOLKVERVA_TRANSFER on a transmit command, with one
  * of these three or a transmit command but no SOLKVERVA_TRANSFER, or with one of the three and a count that is not 0.
  *
+ * Long records: 96 bytes, for sessions that outlast a tag of 16 bits. Bytes 0-79 are a record as above, with the tag's
+ * lower half; 80-81 the tag's upper half, 82-83 a member number, any of either; 84-95 zero. A terminal hears the first 80
+ * bytes alone: the stack has the lower half. solkverva_longer and solkverva_shorter go from one to the other and back.
+ *
  * A caller built before there were transfers lends values of 36 words. What still holds: those words are where they
  * were, records and values with flags of 0 to 7 get the answers that they got, and the transmit command of a value of
  * 36 words is read as 0 and not written. What to change, where records may hold transfers:
@@ -82,6 +87,7 @@ enum {
     SOLKVERVA_SETTINGS_WORDS = 12,
     SOLKVERVA_REMEMBERED_WORDS = 2,
     SOLKVERVA_VALUE_WORDS = 37,
+    SOLKVERVA_LONG_VALUE_WORDS = 39,
     SOLKVERVA_ANSWER_WORDS = 9,
     SOLKVERVA_LISTING_WORDS = 179, /* the most: how many, and two for each of 89 cells */
     SOLKVERVA_COUNTS_WORDS = 2,
@@ -90,7 +96,8 @@ enum {
     SOLKVERVA_CELL_DESCRIPTION_WORDS = 8,
     SOLKVERVA_STACK_DESCRIPTION_WORDS = 4,
     SOLKVERVA_PART_WORDS = 3,
-    SOLKVERVA_RECORD_BYTES = 80
+    SOLKVERVA_RECORD_BYTES = 80,
+    SOLKVERVA_LONG_RECORD_BYTES = 96
 };
 
 /* Flags of a record, added up. 128 is none. */
@@ -112,12 +119,13 @@ enum {
     SOLKVERVA_RAM_LENGTH = 1,      /* RAM is not 4,096 words, or numbers or marks are not as many */
     SOLKVERVA_REPLY_ROOM = 2,      /* reply buffer under 33 words */
     SOLKVERVA_BAD_SETTINGS = 3,    /* RT address over 30 (31 with broadcast off), or stack size none of the four */
-    SOLKVERVA_RECORD_LENGTH = 4,   /* record is not 80 bytes */
+    SOLKVERVA_RECORD_LENGTH = 4,   /* record is not 80 bytes, long record not 96 */
     SOLKVERVA_RECORD_LAYOUT = 5,   /* record breaks its layout, or what numbers and marks hold of an address does */
     SOLKVERVA_OTHER_ADDRESS = 6,   /* not own address, and not 31 with broadcast on */
     SOLKVERVA_MODE_SUBADDRESS = 7, /* subaddress 0 or 31 */
     SOLKVERVA_UNSOUND_STACK = 8,   /* stack unsound */
     SOLKVERVA_UNSOUND_CELL = 9,    /* the message's cell unsound, or a cell of the area, or the cell that is asked for */
+    SOLKVERVA_GOING_BACK_LOSES = 10, /* a tag's upper half or a member number, not 0, would be lost */
     SOLKVERVA_ADDRESS_BEYOND = 12  /* an address beyond the RAM */
 };
 
@@ -156,6 +164,12 @@ uint16_t solkverva_message_value(uint16_t *ram, size_t ram_words, uint16_t *repl
                                  const uint16_t *settings, size_t settings_words, uint16_t *remembered,
                                  size_t remembered_words, const uint16_t *value, size_t value_words, uint16_t *answer,
                                  size_t answer_words);
+
+/* One message from the bytes of a long record: the same, with 4 and 5 of the long layout. */
+uint16_t solkverva_message_long(uint16_t *ram, size_t ram_words, uint16_t *reply, size_t reply_words,
+                                const uint16_t *settings, size_t settings_words, uint16_t *remembered,
+                                size_t remembered_words, const uint8_t *bytes, size_t bytes_length, uint16_t *answer,
+                                size_t answer_words);
 
 /* The label of one cell: which other cells' windows meet its window. The number: 0, 1, 3 or 8, or 9 for a cell that is
  * unsound or that the whole-area check does not read. */
@@ -206,6 +220,19 @@ uint16_t solkverva_read(const uint8_t *bytes, size_t bytes_length, uint16_t *val
 
 /* The record writer: the number, 0 or 5; eighty bytes, all zero with 5. */
 uint16_t solkverva_write(const uint16_t *value, size_t value_words, uint8_t *bytes, size_t bytes_length);
+
+/* The reader of long records: the number, 0, 4 or 5; the long value's words, all zero with 4 and 5. */
+uint16_t solkverva_read_long(const uint8_t *bytes, size_t bytes_length, uint16_t *value, size_t value_words);
+
+/* The writer of long records: the number, 0 or 5; ninety-six bytes, all zero with 5. */
+uint16_t solkverva_write_long(const uint16_t *value, size_t value_words, uint8_t *bytes, size_t bytes_length);
+
+/* A record made long: the number, 0, 4 or 5; ninety-six bytes, all zero with 4 and 5. */
+uint16_t solkverva_longer(const uint8_t *old, size_t old_length, uint8_t *bytes, size_t bytes_length);
+
+/* A long record made short again: the number, 0, 4, 5, or 10 where that would lose an upper half or a member number;
+ * eighty bytes, all zero with a refusal. solkverva_longer undoes it, and the other way round. */
+uint16_t solkverva_shorter(const uint8_t *long_bytes, size_t long_length, uint8_t *bytes, size_t bytes_length);
 
 #ifdef __cplusplus
 }

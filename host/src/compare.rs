@@ -6,6 +6,7 @@ mod classes;
 pub mod coverage;
 pub mod episode;
 pub mod labels;
+pub mod long;
 pub mod origins;
 pub mod replay;
 pub mod run;

@@ -5,6 +5,7 @@
 //! `include/solkverva.h` names them.
 
 pub mod boundary;
+pub mod long;
 pub mod who;
 
 pub use who::Walk;
@@ -44,6 +45,9 @@ pub fn carry_out(
         MessageRef::Value(record) => {
             let value = value_words(record);
             boundary::message_value(ram, reply, &settings, &mut memory, &value, &mut answer)
+        }
+        MessageRef::Long(bytes) => {
+            boundary::message_long(ram, reply, &settings, &mut memory, bytes, &mut answer)
         }
     };
     assert_eq!(number, answer[0], "the number is returned and answered");

@@ -7,9 +7,11 @@ pub mod check;
 pub mod convert;
 pub mod explain;
 pub mod file;
+pub mod heard;
 pub mod help;
 pub mod history;
 pub mod label;
+pub mod lengths;
 pub mod names;
 pub mod options;
 pub mod outcome;
@@ -40,15 +42,17 @@ pub struct Command {
     run: fn(&Given, &mut dyn Write) -> Result<ExitCode, Problem>,
 }
 
-/// Options that every command with a trace has.
+/// Options that every command with a trace has; `--long` where its records may
+/// be long.
 const FORMS: [&str; 2] = ["--text", "--bytes"];
+const LONG: &str = "--long";
 
-pub const COMMANDS: [Command; 7] = [
+pub const COMMANDS: [Command; 8] = [
     Command {
         name: "run",
         help: include_str!("front/help/run.txt"),
         grammar: Grammar::files(1, 1)
-            .flags(&["--explain", "--changes"])
+            .flags(&["--explain", "--changes", LONG])
             .values(&["--names"])
             .forms(&FORMS),
         run: run::run,
@@ -72,7 +76,7 @@ pub const COMMANDS: [Command; 7] = [
         name: "who",
         help: include_str!("front/help/who.txt"),
         grammar: Grammar::files(1, usize::MAX)
-            .flags(&["--all"])
+            .flags(&["--all", LONG])
             .values(&["--names"])
             .forms(&FORMS),
         run: who::run,
@@ -81,9 +85,16 @@ pub const COMMANDS: [Command; 7] = [
         name: "page",
         help: include_str!("front/help/page.txt"),
         grammar: Grammar::files(1, 1)
+            .flags(&[LONG])
             .values(&["-o", "--names", "--title"])
             .forms(&FORMS),
         run: page::run,
+    },
+    Command {
+        name: "convert",
+        help: include_str!("front/help/convert.txt"),
+        grammar: Grammar::files(1, 1).flags(&[LONG, "--old"]).forms(&FORMS),
+        run: lengths::run,
     },
     Command {
         name: "pack",
@@ -94,7 +105,7 @@ pub const COMMANDS: [Command; 7] = [
     Command {
         name: "unpack",
         help: include_str!("front/help/unpack.txt"),
-        grammar: Grammar::files(0, 1),
+        grammar: Grammar::files(0, 1).flags(&[LONG]),
         run: convert::unpack,
     },
 ];

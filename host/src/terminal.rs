@@ -6,6 +6,7 @@ pub mod described;
 mod faults;
 pub mod label;
 pub mod layout;
+pub mod long;
 pub mod message;
 pub mod planted;
 pub mod records;

@@ -20,6 +20,6 @@ pub use pack::{pack, read_names, read_text, TraceText};
 pub(crate) use settings::{read_settings, write_settings};
 pub use tokens::TextError;
 pub(crate) use tokens::{decimal, mismatch, shown, Mismatch, Tokens};
-pub use unpack::unpack;
 pub(crate) use unpack::write_words;
+pub use unpack::{unpack, unpack_long};
 pub use unseen::visible;

@@ -64,7 +64,7 @@ ends-after [] p q e = omega (arith, eqb-true p q e)
 ends-after (f ∷ fs) p q e = omega (arith, ends-after fs (p + f .width) q (goes-on f fs p q e))
 
 -- a place before the first field
-fields-before :
+pub fields-before :
     (fs : List Field) (s : List ℕ) (p q k : ℕ) → endToEnd p fs q ≡ true → k < p → getD (putFields fs s) k 0 ≡ getD s k 0
 unfolding putFields
 fields-before [] s p q k e l = refl

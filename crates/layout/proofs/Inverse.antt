@@ -29,7 +29,7 @@ laid v = refl
 
 -- ---- what was written is read
 
-length-bytes : (v : Record) → length (bytesOf v) ≡ 80
+pub length-bytes : (v : Record) → length (bytesOf v) ≡ 80
 unfolding bytesOf
 length-bytes v = length-fields (fieldsOf v) zeroBytes
 
@@ -139,7 +139,7 @@ words-length : (s : List ℕ) → length (wordsIn s) ≡ 32
 unfolding wordsIn
 words-length s = length-fill 0 _ zeroWords 32
 
-typed-value : (s : List ℕ) → Bytes s → Typed (valueIn s)
+pub typed-value : (s : List ℕ) → Bytes s → Typed (valueIn s)
 unfolding valueIn
 typed-value s b =
     record {
@@ -164,7 +164,7 @@ bytes-zero k =
     (λ l. rw (List·getD-eq-default zeroBytes 0 {n = k} l) (omega arith))
     (lt-or-ge k 80)
 
-bytes-written : (v : Record) → Bytes (bytesOf v)
+pub bytes-written : (v : Record) → Bytes (bytesOf v)
 unfolding bytesOf
 bytes-written v = bytes-fields (fieldsOf v) zeroBytes bytes-zero
 

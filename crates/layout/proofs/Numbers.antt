@@ -20,7 +20,7 @@ number-more : (s : List ℕ) (i n : ℕ) → numberAt s i (suc n) ≡ numberAt s
 number-more s i zero = simp (zero-add, add-zero)
 number-more s i (suc n) = refl
 
-put-more : (s : List ℕ) (i n x : ℕ) → putNumber s i (suc n) x ≡ set (putNumber s i n (x / 256)) (i + n) (x % 256)
+pub put-more : (s : List ℕ) (i n x : ℕ) → putNumber s i (suc n) x ≡ set (putNumber s i n (x / 256)) (i + n) (x % 256)
 unfolding putNumber
 put-more s i zero x = simp add-zero
 put-more s i (suc n) x = refl

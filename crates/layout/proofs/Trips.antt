@@ -17,7 +17,7 @@ use Rattle.layout.proofs.Cases.{write-layout, write-good}
 use Rattle.layout.proofs.Inverse.{read-after-write, write-after-read, reader-takes, writer-takes}
 
 -- the number that the reader answers is its refusal
-read-number : (s : List ℕ) → readRecord s .number ≡ readerRefusal s
+pub read-number : (s : List ℕ) → readRecord s .number ≡ readerRefusal s
 unfolding readRecord notRead
 read-number s =
     ⊎-elim

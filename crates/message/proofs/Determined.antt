@@ -5,6 +5,7 @@ use mathlib.Core.Path.{refl}
 use Rattle.words.proofs.Settled.{determined, Settled}
 use Rattle.message.proofs.answer
 use Rattle.message.proofs.heard
+use Rattle.message.proofs.long
 use Rattle.message.proofs.perform
 use Rattle.message.proofs.serve
 
@@ -38,4 +39,16 @@ perform-value-settled κs a x y v w p q =
 
 pub perform-bytes-settled : Settled 3 heard.perform_bytes.Kinds.ps heard.perform_bytes.Kinds.r heard.perform_bytes.Reads.Post
 perform-bytes-settled κs a x y v w p q =
+    (determined (p .0) (q .0), λ i. (determined (p .1 .0) (q .1 .0) i, (determined (p .1 .1) (q .1 .1) i, v .1 .1)))
+
+pub message-from-long-settled :
+    Settled 3 long.message_from_long.Kinds.ps long.message_from_long.Kinds.r long.message_from_long.Reads.Post
+message-from-long-settled κs a x y v w p q =
+    let state = determined (p .1) (q .1) in (
+      λ i. record { answer = determined (p .0) (q .0) i; remembered = state i .remembered },
+      λ i. (state i .ram, (state i .reply, v .1 .1)),
+    )
+
+pub perform-long-settled : Settled 3 long.perform_long.Kinds.ps long.perform_long.Kinds.r long.perform_long.Reads.Post
+perform-long-settled κs a x y v w p q =
     (determined (p .0) (q .0), λ i. (determined (p .1 .0) (q .1 .0) i, (determined (p .1 .1) (q .1 .1) i, v .1 .1)))

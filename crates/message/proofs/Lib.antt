@@ -5,6 +5,7 @@ pub mod Refusals
 pub mod Only
 pub mod InTurn
 pub mod FromBytes
+pub mod FromLong
 pub mod Performing
 pub mod Edges
 pub mod Determined

@@ -2,6 +2,7 @@
 // Document 01, "What one message does" and "Numbers that refuse".
 pub mod answer;
 pub mod heard;
+pub mod long;
 pub mod perform;
 pub mod serve;
 pub mod tests;

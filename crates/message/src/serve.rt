@@ -15,7 +15,7 @@ use words::remembered::Remembered;
 use words::settings::Settings;
 
 // What was performed, told; of a refusal, nothing is remembered that was not before.
-fn tell(performed: Performed, before: Remembered) -> Outcome
+pub(crate) fn tell(performed: Performed, before: Remembered) -> Outcome
     ensures { λ r. ⌜ r ≡ record { answer = answerIn performed; remembered = rememberedIn before performed } ⌝ }
 {
     match performed {

@@ -38,6 +38,10 @@ unsoundStack = 8
 abbrev pub unsoundCell : ℕ
 unsoundCell = 9
 
+-- "then 10 when going back would lose a non-zero upper half or member number"
+abbrev pub goingBackLoses : ℕ
+goingBackLoses = 10
+
 -- "12 for an address beyond the RAM"
 abbrev pub addressBeyond : ℕ
 addressBeyond = 12

@@ -18,5 +18,7 @@ pub const MODE_SUBADDRESS: u16 = 7;
 pub const UNSOUND_STACK: u16 = 8;
 // 9: the message's cell unsound
 pub const UNSOUND_CELL: u16 = 9;
+// 10: going back to a short record would lose the tag's upper half or the member number
+pub const GOING_BACK_LOSES: u16 = 10;
 // 12: an address beyond the RAM
 pub const ADDRESS_BEYOND: u16 = 12;

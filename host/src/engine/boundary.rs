@@ -5,9 +5,11 @@
 //! so these functions are safe to call with slices of any contents and length.
 
 mod descriptions;
+mod long;
 mod origins;
 
 pub use descriptions::{describe_cell, describe_stack};
+pub use long::{longer, message_long, read_long, shorter, write_long};
 pub use origins::{who, who_entry, who_fill};
 
 mod linked {

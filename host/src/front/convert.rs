@@ -25,7 +25,11 @@ pub fn pack(given: &Given, output: &mut dyn Write) -> Result<ExitCode, Problem> 
 
 pub fn unpack(given: &Given, output: &mut dyn Write) -> Result<ExitCode, Problem> {
     let (_, input) = read_whole(file(given))?;
-    let text = text::unpack(&input);
+    let text = if given.has("--long") {
+        text::unpack_long(&input)
+    } else {
+        text::unpack(&input)
+    };
     output.write_all(text.as_bytes()).map_err(problem::output)?;
     Ok(ExitCode::SUCCESS)
 }

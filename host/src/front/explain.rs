@@ -1,5 +1,6 @@
 //! What a message did, in words.
 
+use super::heard::{self, Heard};
 use super::names::{self, addresses, cell_name, count, subaddress_of};
 use super::outcome::Outcome;
 use super::replay::{places, Moved, Replay};
@@ -15,10 +16,11 @@ use crate::text::Owners;
 
 /// Lines about the record that a replay has just met.
 pub fn explain(replay: &Replay, owners: &Owners, bytes: &[u8], answer: &Answer) -> Vec<String> {
-    let (unreadable, record) = engine::read_record(bytes);
+    let (unreadable, heard) = heard::read(bytes);
+    let record = heard.record;
     let mut lines = Vec::new();
     if unreadable == 0 {
-        lines.push(asked(&record, &replay.settings, owners));
+        lines.push(asked(&heard, &replay.settings, owners));
         lines.extend(asked_of_the_other(&record, &replay.settings, owners));
     }
     if answer.number == 0 {
@@ -33,13 +35,15 @@ pub fn explain(replay: &Replay, owners: &Owners, bytes: &[u8], answer: &Answer) 
     lines
 }
 
-fn asked(record: &Record, settings: &Settings, owners: &Owners) -> String {
+fn asked(heard: &Heard, settings: &Settings, owners: &Owners) -> String {
+    let record = &heard.record;
     format!(
-        "command {:04X}: {}; tag {:04X}, bus {}",
+        "command {:04X}: {}; tag {:X}, bus {}{}",
         record.command,
         say::command(record.command, settings, owners),
-        record.tag,
-        say::bus(record)
+        heard.tag,
+        say::bus(record),
+        heard::member(heard.member, owners)
     )
 }
 
@@ -214,7 +218,7 @@ pub fn why_refused(
 ) -> String {
     let reason = say::refusal(number, settings);
     match number {
-        5 => format!("{reason}: {}", say::layout_faults(bytes).join(" and ")),
+        5 => layout_broken(bytes),
         6 => format!("{reason}, which is {}", settings.address),
         8 => format!("{reason}: {}", stack_faults(ram, settings).join(" and ")),
         9 => {
@@ -224,4 +228,10 @@ pub fn why_refused(
         }
         _ => reason.to_string(),
     }
+}
+
+/// That a record breaks its layout, and how.
+pub fn layout_broken(bytes: &[u8]) -> String {
+    let faults = say::layout_faults(bytes).join(" and ");
+    format!("{}: {faults}", say::refusal(5, &Settings::TRACE))
 }

@@ -2,19 +2,21 @@
 
 use std::ops::Range;
 
+use super::heard::{self, Tag};
 use super::names::kind_of;
 use super::outcome::Outcome;
 use super::replay::{Moved, Replay};
 use super::say;
 use super::used::CELLS;
-use crate::engine;
 use crate::terminal::cells::{Kind, Scheme, DESCRIPTOR_WORDS, RAM_WORDS};
 use crate::terminal::Answer;
 
 /// What is kept of a message beside its number.
 #[derive(Clone, Copy, Debug, Default, PartialEq, Eq)]
 pub struct Facts {
-    pub tag: u16,
+    pub tag: Tag,
+    /// The member number of a long record.
+    pub member: Option<u16>,
     pub outcome: Outcome,
     /// The other terminal's command, where the message was a transfer.
     pub transmit_command: Option<u16>,
@@ -77,16 +79,17 @@ impl History {
 
     /// The facts of the message that was just accepted.
     fn facts_of(&mut self, bytes: &[u8], answer: &Answer, words: usize) -> Facts {
-        let record = engine::read_record(bytes).1;
+        let heard = heard::read(bytes).1;
         let turns = &mut self.turns[usize::from(answer.cell)];
         let before = *turns;
         if answer.pointer_before != answer.pointer_after {
             *turns += 1;
         }
         Facts {
-            tag: record.tag,
-            outcome: Outcome::new(answer, &record, &self.replay.settings, words),
-            transmit_command: say::transmit_command(&record),
+            tag: heard.tag,
+            member: heard.member,
+            outcome: Outcome::new(answer, &heard.record, &self.replay.settings, words),
+            transmit_command: say::transmit_command(&heard.record),
             turns: (before, *turns),
         }
     }

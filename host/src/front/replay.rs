@@ -1,11 +1,13 @@
 //! The proved terminal in the middle of a trace.
 
+use super::heard;
 use super::outcome::Outcome;
 use super::used::Used;
 use crate::engine::{self, Walk};
 use crate::terminal::cells::Kind;
 use crate::terminal::described::{CellDescription, StackDescription};
 use crate::terminal::message::REPLY_WORDS;
+use crate::terminal::records::RECORD_BYTES;
 use crate::terminal::who::Origin;
 use crate::terminal::writes::Part;
 use crate::terminal::{Answer, MessageRef, Remembered, Settings};
@@ -62,14 +64,19 @@ impl Replay {
         }
     }
 
-    /// The next record.
+    /// The next record, old or long.
     pub fn message(&mut self, bytes: &[u8]) -> Answer {
+        let message = if heard::is_long(bytes) {
+            MessageRef::Long(bytes)
+        } else {
+            MessageRef::Bytes(bytes)
+        };
         let (answer, remembered) = engine::carry_out(
             &mut self.ram,
             &mut self.reply,
             &self.settings,
             self.remembered,
-            MessageRef::Bytes(bytes),
+            message,
         );
         self.remembered = remembered;
         self.records += 1;
@@ -77,7 +84,7 @@ impl Replay {
             self.used.by(answer.cell);
         }
         if let Some(walk) = &mut self.walk {
-            walk.record(bytes);
+            walk.record(&old_part(bytes));
         }
         answer
     }
@@ -136,6 +143,16 @@ impl Replay {
             origin.record == self.records && origin.part == Part::Data(place)
         })
     }
+}
+
+/// The record of 80 bytes whose message is that of a record, old or long. A long
+/// one that is not read does nothing, and neither does a record of 255s.
+fn old_part(bytes: &[u8]) -> [u8; RECORD_BYTES] {
+    let mut old = [0xFF; RECORD_BYTES];
+    if !heard::is_long(bytes) || heard::read(bytes).0 == 0 {
+        old.copy_from_slice(&bytes[..RECORD_BYTES]);
+    }
+    old
 }
 
 /// The places of a whole message from the cell's pointer on, wrapping at the

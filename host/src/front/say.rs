@@ -1,5 +1,6 @@
 //! The terminal's words and numbers in plain language.
 
+use super::heard;
 use super::names::{count, subaddress_name};
 use super::outcome::{Outcome, Trouble};
 use crate::terminal::layout::{broken_rules, Rule};
@@ -218,13 +219,26 @@ pub fn refusal(number: u16, settings: &Settings) -> &'static str {
         7 => "subaddress 0 or 31: mode commands are not built yet",
         8 => "the stack is unsound",
         9 => "the message's cell is unsound",
+        10 => "going back would lose the tag's upper half or the member number",
         12 => "the address is beyond the RAM",
         _ => "no reason known",
     }
 }
 
-/// What breaks the layout of a record.
+/// The old part of a long record, and what stands behind it.
+fn long_parts(bytes: &[u8]) -> Option<(&[u8], &[u8])> {
+    heard::is_long(bytes).then(|| bytes.split_at(RECORD_BYTES))
+}
+
+/// What breaks the layout of a record, old or long.
 pub fn layout_faults(bytes: &[u8]) -> Vec<String> {
+    if let Some((old, new)) = long_parts(bytes) {
+        let mut faults = layout_faults(old);
+        if new[4..].iter().any(|&byte| byte != 0) {
+            faults.push("bytes 84-95 are not zero".to_string());
+        }
+        return faults;
+    }
     let bytes: &[u8; RECORD_BYTES] = match bytes.try_into() {
         Ok(bytes) => bytes,
         Err(_) => return Vec::new(),

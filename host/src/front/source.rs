@@ -10,6 +10,7 @@ use std::os::unix::io::{AsFd, OwnedFd};
 use super::options::Given;
 use super::problem::{self, Problem};
 use super::progress::Progress;
+use crate::terminal::long::LONG_BYTES;
 use crate::terminal::records::RECORD_BYTES;
 use crate::terminal::trace::{fill, image_words, IMAGE_BYTES};
 use crate::terminal::Settings;
@@ -33,9 +34,15 @@ pub struct Source {
 impl Source {
     /// Opens what a command was given as its FILE.
     pub fn open(given: &Given) -> Result<Source, Problem> {
+        Source::open_records(given, given.has("--long").then_some(true))
+    }
+
+    /// The same, with long records or old ones where that is said; a text says
+    /// it itself.
+    pub fn open_records(given: &Given, long: Option<bool>) -> Result<Source, Problem> {
         let file = given.files.first().map_or(OsStr::new("-"), |file| file);
         let (name, input, length) = open(file)?;
-        let mut source = Source::read(given, name, input, length)?;
+        let mut source = Source::read(given, name, input, length, long)?;
         if let Some(names) = given.value("--names") {
             source.take_names(names)?;
         }
@@ -47,6 +54,7 @@ impl Source {
         name: String,
         mut input: Box<dyn Read>,
         length: Option<u64>,
+        long: Option<bool>,
     ) -> Result<Source, Problem> {
         let mut start = vec![0; IMAGE_BYTES];
         let (read, done) = fill(&mut *input, &mut start);
@@ -54,10 +62,15 @@ impl Source {
         start.truncate(read);
         let is_text = given.has("--text") || !given.has("--bytes") && looks_like_text(&start);
         if is_text {
-            Source::from_text(name, start, input)
+            Source::from_text(name, start, input, long)
         } else {
             let image = whole_image(&start);
-            let records = Records::new(input, length.map(|length| behind(length, read)));
+            let behind = length.map(|length| behind(length, read));
+            let long = long.unwrap_or(false);
+            if long {
+                not_old(&name, behind)?;
+            }
+            let records = Records::new(input, behind, long);
             Ok(Source {
                 name,
                 settings: Settings::TRACE,
@@ -75,11 +88,20 @@ impl Source {
         name: String,
         mut text: Vec<u8>,
         mut input: Box<dyn Read>,
+        long: Option<bool>,
     ) -> Result<Source, Problem> {
         let read = input.read_to_end(&mut text);
         read.map_err(|error| problem::file(&name, &error))?;
         let read = read_text(&text).map_err(|error| problem::text(&name, &error))?;
-        Ok(Source::held(name, read))
+        match long {
+            Some(long) if long != read.long => {
+                let has = if read.long { LONG_BYTES } else { RECORD_BYTES };
+                let line = "a line \"records 96\" makes the records of a text long";
+                let text = format!("{name}: its records have {has} bytes; {line}");
+                Err(Problem::Input(text))
+            }
+            _ => Ok(Source::held(name, read)),
+        }
     }
 
     /// A text that was read already.
@@ -91,7 +113,11 @@ impl Source {
             has_names: read.settings.is_some() || !read.owners.is_empty(),
             settings: read.settings.unwrap_or(Settings::TRACE),
             image: whole_image(start),
-            records: Records::new(Box::new(Cursor::new(records.to_vec())), Some(length)),
+            records: Records::new(
+                Box::new(Cursor::new(records.to_vec())),
+                Some(length),
+                read.long,
+            ),
             owners: read.owners,
         }
     }
@@ -128,6 +154,11 @@ impl Source {
         records.next().map_err(|error| problem::file(name, &error))
     }
 
+    /// How many bytes each record has.
+    pub fn record_bytes(&self) -> usize {
+        self.records.record_bytes
+    }
+
     /// How many bytes stand behind the last whole record.
     pub fn tail(&self) -> usize {
         self.records.filled - self.records.place
@@ -137,6 +168,7 @@ impl Source {
 /// Bytes that are read a batch at a time and handed on a record at a time.
 struct Records {
     input: Box<dyn Read>,
+    record_bytes: usize,
     batch: Vec<u8>,
     filled: usize,
     place: usize,
@@ -148,17 +180,19 @@ struct Records {
 }
 
 impl Records {
-    fn new(input: Box<dyn Read>, length: Option<u64>) -> Records {
-        let batch = vec![0; BATCH_RECORDS * RECORD_BYTES];
+    fn new(input: Box<dyn Read>, length: Option<u64>, long: bool) -> Records {
+        let record_bytes = if long { LONG_BYTES } else { RECORD_BYTES };
+        let batch = vec![0; BATCH_RECORDS * record_bytes];
         Records {
             input,
+            record_bytes,
             // Full and used up: the first record asks for a batch.
             filled: batch.len(),
             place: batch.len(),
             batch,
             failure: None,
             handed_on: 0,
-            all: length.map(|length| length / RECORD_BYTES as u64),
+            all: length.map(|length| length / record_bytes as u64),
             progress: Progress::new(),
         }
     }
@@ -171,7 +205,7 @@ impl Records {
             self.place = 0;
             self.progress.at(self.handed_on, self.all);
         }
-        let end = self.place + RECORD_BYTES;
+        let end = self.place + self.record_bytes;
         if end > self.filled {
             return self.failure.take().map_or(Ok(None), Err);
         }
@@ -186,6 +220,22 @@ impl Records {
 /// grown since its length was asked.
 pub fn behind(length: u64, read: usize) -> u64 {
     length.saturating_sub(read as u64)
+}
+
+/// Records of 80 bytes given as long ones are told as such, where their length
+/// shows it.
+fn not_old(name: &str, behind: Option<u64>) -> Result<(), Problem> {
+    let (long, old) = (LONG_BYTES as u64, RECORD_BYTES as u64);
+    match behind {
+        Some(bytes) if bytes % long != 0 && bytes % old == 0 => {
+            let records = bytes / old;
+            let advice = "leave --long out, or make them long with ./solkverva convert --long";
+            Err(Problem::Input(format!(
+                "{name}: {bytes} bytes are no whole records of 96 bytes, but {records} of 80; {advice}"
+            )))
+        }
+        _ => Ok(()),
+    }
 }
 
 /// A file's name as it is shown, and all of its bytes.

@@ -14,6 +14,7 @@ use std::ops::Range;
 use super::cells::{Kind, Scheme, CELLS};
 use super::described::{self, CellDescription, StackDescription};
 use super::label::{self, AreaLabel, Sharer};
+use super::long::{self, LongRecord};
 use super::records::RECORD_WORDS;
 use super::{carry_out, Answer, MessageRef, Record, Remembered, Settings};
 
@@ -23,6 +24,8 @@ pub const SETTINGS_WORDS: usize = 12;
 pub const REMEMBERED_WORDS: usize = 2;
 /// Words of a record value.
 pub const VALUE_WORDS: usize = TRANSMIT_COMMAND + 1;
+/// Words of a long record: those of its old part, upper half, member.
+pub const LONG_WORDS: usize = VALUE_WORDS + 2;
 /// Words of an answer.
 pub const ANSWER_WORDS: usize = 9;
 /// Words of a cell's listing: how many, and two for each other cell.
@@ -97,6 +100,47 @@ pub fn read(bytes: &[u8], value: &mut [u16]) -> u16 {
 #[inline(never)]
 pub fn write(value: &[u16], bytes: &mut [u8]) -> u16 {
     put_or_zero(bytes, super::write_record(&record_of(value)))
+}
+
+/// One message from the bytes of a long record: the number, as of [`message`].
+#[inline(never)]
+pub fn message_long(
+    ram: &mut [u16],
+    reply: &mut [u16],
+    settings: &[u16],
+    remembered: &mut [u16],
+    bytes: &[u8],
+    answer: &mut [u16],
+) -> u16 {
+    let settings = settings_of(settings);
+    let before = remembered_of(remembered);
+    let outcome = carry_out(ram, reply, &settings, before, MessageRef::Long(bytes));
+    put_outcome(outcome, remembered, answer)
+}
+
+/// The reader of long records: 0, 4 or 5, and the value's words.
+#[inline(never)]
+pub fn read_long(bytes: &[u8], value: &mut [u16]) -> u16 {
+    let read = long::read_long(bytes);
+    put_or_zero(value, read.map(|record| long_words(&record)))
+}
+
+/// The writer of long records: 0 or 5, and the record's bytes.
+#[inline(never)]
+pub fn write_long(value: &[u16], bytes: &mut [u8]) -> u16 {
+    put_or_zero(bytes, long::write_long(&long_of(value)))
+}
+
+/// Old to new: 0, 4 or 5, and the record's 96 bytes.
+#[inline(never)]
+pub fn longer(old: &[u8], bytes: &mut [u8]) -> u16 {
+    put_or_zero(bytes, long::longer(old))
+}
+
+/// New to old: 0, 4, 5 or 10, and the record's 80 bytes.
+#[inline(never)]
+pub fn shorter(long: &[u8], bytes: &mut [u8]) -> u16 {
+    put_or_zero(bytes, long::shorter(long))
 }
 
 /// The label of one cell: the number, and the words of its listing.
@@ -258,6 +302,22 @@ pub fn value_words(record: &Record) -> [u16; VALUE_WORDS] {
     value[..HEAD_WORDS].copy_from_slice(&head);
     value[HEAD_WORDS..TRANSMIT_COMMAND].copy_from_slice(&record.words);
     value[TRANSMIT_COMMAND] = record.transmit_command;
+    value
+}
+
+pub fn long_of(value: &[u16]) -> LongRecord {
+    let word = |place: usize| value.get(place).copied().unwrap_or(0);
+    LongRecord {
+        old: record_of(value),
+        upper: word(VALUE_WORDS),
+        member: word(VALUE_WORDS + 1),
+    }
+}
+
+pub fn long_words(record: &LongRecord) -> [u16; LONG_WORDS] {
+    let mut value = [0; LONG_WORDS];
+    value[..VALUE_WORDS].copy_from_slice(&value_words(&record.old));
+    value[VALUE_WORDS..].copy_from_slice(&[record.upper, record.member]);
     value
 }
 

@@ -6,6 +6,7 @@ use super::cells::{
     lookup_place, stack_pointer_place, Cell, Kind, Scheme, Stack, DESCRIPTOR_WORDS, RAM_WORDS,
 };
 use super::faults::Faults;
+use super::long::read_old;
 use super::planted::{
     with_planted, Planted, FAULTY_STORES_WHEN_DISABLED, NONE, POINTER_AFTER_IN_DESCRIPTOR,
     ROLLOVER_WHEN_KEPT_BACK, TRANSFER_BITS_EXCHANGED, TRANSMIT_COMMAND_IN_DESCRIPTOR,
@@ -42,11 +43,13 @@ pub struct Answer {
     pub interrupt: u16,
 }
 
-/// A message, as the bytes of a record or as its value.
+/// A message, as the bytes of a record, as its value, or as the bytes of a long
+/// record.
 #[derive(Clone, Copy, Debug)]
 pub enum MessageRef<'a> {
     Bytes(&'a [u8]),
     Value(&'a Record),
+    Long(&'a [u8]),
 }
 
 /// Carries out a message.
@@ -117,6 +120,10 @@ fn accept<const PLANTED: u8>(
         MessageRef::Value(record) => {
             record.check::<PLANTED>()?;
             record
+        }
+        MessageRef::Long(bytes) => {
+            read = read_old(bytes)?;
+            &read
         }
     };
     perform::<PLANTED>(ram, reply, settings, record)

@@ -9,4 +9,5 @@ pub const ADDRESS: u16 = 6;
 pub const SUBADDRESS: u16 = 7;
 pub const STACK: u16 = 8;
 pub const CELL: u16 = 9;
+pub const LOSES_NUMBER: u16 = 10;
 pub const BEYOND_RAM: u16 = 12;

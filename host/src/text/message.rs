@@ -1,6 +1,7 @@
-//! A message line, to the bytes of its record.
+//! A message line, to the bytes of its record, old or long.
 
 use super::tokens::{mismatch, shown, Mismatch, Tokens};
+use crate::terminal::long::{write_long, LongRecord, LONG_BYTES};
 use crate::terminal::records::{
     Record, FLAG_BUS_B, FLAG_GAP, FLAG_INVALID_WORD, FLAG_NO_STATUS, FLAG_SECOND, FLAG_TRANSFER,
     FLAG_WRONG_SYNC, RECORD_BYTES, RECORD_WORDS, TOO_MANY, TRANSFER_FAULTS,
@@ -17,25 +18,38 @@ const FLAG_NAMES: [(u16, &str); 5] = [
     (FLAG_SECOND, "second"),
 ];
 
-const PARTS: [&str; 6] = ["from", "bus", "tag", "flags", "count", "words"];
+const PARTS: [&str; 7] = ["from", "bus", "tag", "member", "flags", "count", "words"];
 
 /// What follows `message`: the command and then the parts in any order.
 pub fn read_message(tokens: &mut Tokens) -> Result<[u8; RECORD_BYTES], Mismatch> {
-    let record = read_parts(tokens)?;
-    check_transfer(&record)?;
-    write_record(&record).or_else(|_| {
-        mismatch(
-            format!("other words than 0000 after the first {}", record.count),
-            "a larger count, or a raw line for a damaged record",
-        )
-    })
+    let record = read_parts(tokens, Length::Old)?.old;
+    write_record(&record).or_else(|_| words_after(&record))
 }
 
-fn read_parts(tokens: &mut Tokens) -> Result<Record, Mismatch> {
-    let mut record = Record {
-        command: tokens.hex_word("a command word")?,
-        ..Record::default()
-    };
+/// The same for a long record.
+pub fn read_long_message(tokens: &mut Tokens) -> Result<[u8; LONG_BYTES], Mismatch> {
+    let record = read_parts(tokens, Length::Long)?;
+    write_long(&record).or_else(|_| words_after(&record.old))
+}
+
+fn words_after<T>(record: &Record) -> Result<T, Mismatch> {
+    mismatch(
+        format!("other words than 0000 after the first {}", record.count),
+        "a larger count, or a raw line for a damaged record",
+    )
+}
+
+/// Which records a text has.
+#[derive(Clone, Copy, PartialEq)]
+enum Length {
+    Old,
+    Long,
+}
+
+fn read_parts(tokens: &mut Tokens, length: Length) -> Result<LongRecord, Mismatch> {
+    let mut long = LongRecord::default();
+    let record = &mut long.old;
+    record.command = tokens.hex_word("a command word")?;
     let mut count = None;
     let mut words_written = 0;
     let mut parts_met = Vec::new();
@@ -50,7 +64,19 @@ fn read_parts(tokens: &mut Tokens) -> Result<Record, Mismatch> {
                 record.transmit_command = tokens.hex_word("the other terminal's command word")?;
             }
             "bus" => record.flags |= read_bus(tokens)?,
+            "tag" if length == Length::Long => {
+                let tag = tokens.hex_digits("a time tag", 8)?;
+                record.tag = tag as u16;
+                long.upper = (tag >> 16) as u16;
+            }
             "tag" => record.tag = tokens.hex_word("a time tag")?,
+            "member" if length == Length::Long => {
+                long.member = tokens.decimal("a member number", u16::MAX.into())? as u16;
+            }
+            "member" => {
+                let expected = "a line \"records 96\" before the first record, for long records";
+                return mismatch("member in a record of 80 bytes", expected);
+            }
             "flags" => record.flags |= read_flags(tokens)?,
             "count" => count = Some(tokens.decimal("a count", TOO_MANY.into())?),
             "words" => words_written = read_words(tokens, &mut record.words)?,
@@ -58,7 +84,8 @@ fn read_parts(tokens: &mut Tokens) -> Result<Record, Mismatch> {
         }
     }
     record.count = count.unwrap_or(words_written) as u16;
-    Ok(record)
+    check_transfer(record)?;
+    Ok(long)
 }
 
 /// What a transfer and its faults ask of the other parts.

@@ -1,11 +1,12 @@
 //! From text to bytes.
 
 use super::lines::lines;
-use super::message::read_message;
+use super::message::{read_long_message, read_message};
 use super::owners::Owners;
 use super::settings::read_settings;
 use super::tokens::{mismatch, shown, Mismatch, TextError, Tokens};
 use crate::terminal::cells::RAM_WORDS;
+use crate::terminal::long::LONG_BYTES;
 use crate::terminal::records::RECORD_BYTES;
 use crate::terminal::trace::IMAGE_BYTES;
 use crate::terminal::Settings;
@@ -17,6 +18,8 @@ pub struct TraceText {
     /// None where the text leaves them to the trace program.
     pub settings: Option<Settings>,
     pub owners: Owners,
+    /// Whether its records have 96 bytes.
+    pub long: bool,
 }
 
 /// The bytes that a text stands for.
@@ -78,6 +81,8 @@ pub struct Packer {
     part: Part,
     settings: Option<Settings>,
     owners: Owners,
+    /// As a records line says; none where there is no such line.
+    long: Option<bool>,
 }
 
 impl Packer {
@@ -88,6 +93,7 @@ impl Packer {
             part: Part::Start,
             settings: None,
             owners: Owners::default(),
+            long: None,
         }
     }
 
@@ -97,6 +103,7 @@ impl Packer {
             bytes: self.image,
             settings: self.settings,
             owners: self.owners,
+            long: self.long.unwrap_or(false),
         }
     }
 
@@ -106,12 +113,13 @@ impl Packer {
             None => return Ok(()),
             Some("settings") => self.settings_line(&mut tokens)?,
             Some("owner") => self.owner_line(&mut tokens)?,
+            Some("records") => self.records_line(&mut tokens)?,
             Some("image") => self.image_line(&mut tokens)?,
             Some("ram") => self.ram_line(&mut tokens)?,
             Some("message") => self.message_line(&mut tokens)?,
             Some("raw") => self.raw_line(&mut tokens)?,
             other => {
-                let expected = "settings, owner, image, ram, message or raw";
+                let expected = "settings, owner, records, image, ram, message or raw";
                 return mismatch(shown(other), expected);
             }
         }
@@ -132,6 +140,28 @@ impl Packer {
     fn owner_line(&mut self, tokens: &mut Tokens) -> Result<(), Mismatch> {
         self.before_records("owner")?;
         self.owners.read(tokens)
+    }
+
+    /// `records 80` or `records 96`: how long each record is.
+    fn records_line(&mut self, tokens: &mut Tokens) -> Result<(), Mismatch> {
+        self.before_records("records")?;
+        if self.long.is_some() {
+            return mismatch("a second records line", "one");
+        }
+        self.long = match tokens.next() {
+            Some("80") => Some(false),
+            Some("96") => Some(true),
+            other => return mismatch(shown(other), "records 80 or records 96"),
+        };
+        Ok(())
+    }
+
+    /// How many bytes each record has.
+    fn record_bytes(&self) -> usize {
+        match self.long {
+            Some(true) => LONG_BYTES,
+            _ => RECORD_BYTES,
+        }
     }
 
     fn before_records(&self, name: &str) -> Result<(), Mismatch> {
@@ -188,7 +218,11 @@ impl Packer {
 
     fn message_line(&mut self, tokens: &mut Tokens) -> Result<(), Mismatch> {
         self.enter_records("message")?;
-        self.records.extend(read_message(tokens)?);
+        if self.long == Some(true) {
+            self.records.extend(read_long_message(tokens)?);
+        } else {
+            self.records.extend(read_message(tokens)?);
+        }
         Ok(())
     }
 
@@ -196,10 +230,11 @@ impl Packer {
     fn raw_line(&mut self, tokens: &mut Tokens) -> Result<(), Mismatch> {
         self.enter_records("raw")?;
         let bytes = tokens.bytes()?;
+        let whole = self.record_bytes();
         match bytes.len() {
-            RECORD_BYTES => {}
-            1..=LONGEST_TAIL => self.part = Part::Tail,
-            length => return mismatch(format!("{length} bytes"), "1 to 80 bytes"),
+            length if length == whole => {}
+            length if (1..whole).contains(&length) => self.part = Part::Tail,
+            length => return mismatch(format!("{length} bytes"), format!("1 to {whole} bytes")),
         }
         self.records.extend_from_slice(&bytes);
         Ok(())
@@ -210,12 +245,11 @@ impl Packer {
             return mismatch(name, "no records after a short image");
         }
         if self.part == Part::Tail {
-            return mismatch(name, "nothing after a raw line of fewer than 80 bytes");
+            let whole = self.record_bytes();
+            let expected = format!("nothing after a raw line of fewer than {whole} bytes");
+            return mismatch(name, expected);
         }
         self.part = Part::Records;
         Ok(())
     }
 }
-
-/// The bytes of a raw line that is not a whole record.
-const LONGEST_TAIL: usize = RECORD_BYTES - 1;

@@ -85,6 +85,11 @@ impl<'a> Tokens<'a> {
         self.0.peek().map_or(true, |token| names.contains(token))
     }
 
+    /// Whether this comes next.
+    pub fn is_next(&mut self, name: &str) -> bool {
+        self.0.peek() == Some(&name)
+    }
+
     pub fn end(&mut self) -> Result<(), Mismatch> {
         match self.next() {
             None => Ok(()),
@@ -100,11 +105,16 @@ impl<'a> Tokens<'a> {
     }
 
     pub fn hex_word(&mut self, what: &str) -> Result<u16, Mismatch> {
+        Ok(self.hex_digits(what, 4)? as u16)
+    }
+
+    /// A number of one to so many hexadecimal digits.
+    pub fn hex_digits(&mut self, what: &str, most: usize) -> Result<u32, Mismatch> {
         let token = self.next();
-        match token.and_then(hex_word) {
-            Some(word) => Ok(word),
+        match token.and_then(|token| hex_digits(token, most)) {
+            Some(number) => Ok(number),
             None => {
-                let expected = format!("{what} of 1 to 4 hexadecimal digits");
+                let expected = format!("{what} of 1 to {most} hexadecimal digits");
                 mismatch(shown(token), expected)
             }
         }
@@ -141,11 +151,11 @@ impl<'a> Iterator for Tokens<'a> {
     }
 }
 
-/// One to four digits; signs, which number parsing lets through, are none.
-fn hex_word(token: &str) -> Option<u16> {
+/// Digits alone; signs, which number parsing lets through, are none.
+fn hex_digits(token: &str, most: usize) -> Option<u32> {
     let is_hex = token.bytes().all(|byte| byte.is_ascii_hexdigit());
-    let fits = is_hex && token.len() <= 4;
-    u16::from_str_radix(token, 16).ok().filter(|_| fits)
+    let fits = is_hex && token.len() <= most;
+    u32::from_str_radix(token, 16).ok().filter(|_| fits)
 }
 
 /// A number in digits alone; signs, which number parsing lets through, are none.

@@ -3,6 +3,7 @@
 use std::fmt::{self, Write};
 
 use super::message::flag_names;
+use crate::terminal::long::{read_long, LongRecord, LONG_BYTES};
 use crate::terminal::read_record;
 use crate::terminal::records::{Record, FLAG_BUS_B, RECORD_BYTES, TOO_MANY};
 use crate::terminal::trace::IMAGE_BYTES;
@@ -12,21 +13,37 @@ const WORDS_IN_LINE: usize = 8;
 /// The text of a trace input, whatever its bytes.
 pub fn unpack(binary: &[u8]) -> String {
     let mut text = String::new();
-    write_trace(&mut text, binary).expect("writing to a string never fails");
+    let written = write_trace(&mut text, binary, RECORD_BYTES);
+    written.expect("writing to a string never fails");
     text
 }
 
-fn write_trace(text: &mut String, binary: &[u8]) -> fmt::Result {
+/// The same where the records are long.
+pub fn unpack_long(binary: &[u8]) -> String {
+    let mut text = String::new();
+    let written = write_trace(&mut text, binary, LONG_BYTES);
+    written.expect("writing to a string never fails");
+    text
+}
+
+fn write_trace(text: &mut String, binary: &[u8], record_bytes: usize) -> fmt::Result {
     let (image, records) = binary.split_at(binary.len().min(IMAGE_BYTES));
     if image.len() < IMAGE_BYTES {
         writeln!(text, "image {}", image.len())?;
     }
     write_image(text, image)?;
-    for bytes in records.chunks(RECORD_BYTES) {
-        match read_record(bytes) {
-            Ok(record) => write_message(text, &record)?,
-            Err(_) => write_raw(text, bytes)?,
-        }
+    if record_bytes == LONG_BYTES {
+        writeln!(text, "records {LONG_BYTES}")?;
+    }
+    for bytes in records.chunks(record_bytes) {
+        let written = match (record_bytes, read_record(bytes), read_long(bytes)) {
+            (LONG_BYTES, _, Ok(long)) => write_message(text, &long.old, &long_parts(&long)),
+            (RECORD_BYTES, Ok(record), _) => {
+                write_message(text, &record, &format!("tag {:04X}", record.tag))
+            }
+            _ => write_raw(text, bytes),
+        };
+        written?;
     }
     Ok(())
 }
@@ -56,7 +73,13 @@ fn write_row(text: &mut String, address: usize, words: &[u16]) -> fmt::Result {
     Ok(())
 }
 
-fn write_message(text: &mut String, record: &Record) -> fmt::Result {
+/// Eight digits of the tag, and the member number.
+fn long_parts(long: &LongRecord) -> String {
+    let LongRecord { old, upper, member } = long;
+    format!("tag {upper:04X}{:04X} member {member}", old.tag)
+}
+
+fn write_message(text: &mut String, record: &Record, tag: &str) -> fmt::Result {
     let bus = if record.has_flag(FLAG_BUS_B) {
         'B'
     } else {
@@ -66,7 +89,7 @@ fn write_message(text: &mut String, record: &Record) -> fmt::Result {
     if record.is_transfer() {
         write!(text, " from {:04X}", record.transmit_command)?;
     }
-    write!(text, " bus {bus} tag {:04X}", record.tag)?;
+    write!(text, " bus {bus} {tag}")?;
     let flags = flag_names(record.flags);
     if !flags.is_empty() {
         write!(text, " flags {}", flags.join(" "))?;

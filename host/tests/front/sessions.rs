@@ -112,6 +112,11 @@ fn transfers_print_what_is_stored() {
 }
 
 #[test]
+fn long_records_print_what_is_stored() {
+    holds("long");
+}
+
+#[test]
 fn help_prints_what_is_stored() {
     holds("help");
 }

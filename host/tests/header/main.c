@@ -455,6 +455,46 @@ static void who_put_a_word_there(void)
     assert(last[0] == 0 && part[0] == 0 && part[1] == 0 && part[2] == 0);
 }
 
+/* A record made long, heard, and made short again; and what cannot go back. */
+static void long_records(void)
+{
+    uint8_t made_long[SOLKVERVA_LONG_RECORD_BYTES + 1], back[SOLKVERVA_RECORD_BYTES + 1];
+    uint16_t value[SOLKVERVA_LONG_VALUE_WORDS];
+
+    start();
+    memset(made_long, 0xEE, sizeof made_long);
+    assert(solkverva_longer(bytes, sizeof bytes, made_long, sizeof made_long) == SOLKVERVA_DONE);
+    assert(memcmp(made_long, bytes, sizeof bytes) == 0 && made_long[95] == 0 && made_long[96] == 0xEE);
+    memset(back, 0xEE, sizeof back);
+    assert(solkverva_shorter(made_long, SOLKVERVA_LONG_RECORD_BYTES, back, sizeof back) == SOLKVERVA_DONE);
+    assert(memcmp(back, bytes, sizeof bytes) == 0 && back[80] == 0xEE);
+
+    assert(solkverva_read_long(made_long, SOLKVERVA_LONG_RECORD_BYTES, value, SOLKVERVA_LONG_VALUE_WORDS) ==
+           SOLKVERVA_DONE);
+    assert(value[0] == 0x2864 && value[1] == 0x0102 && value[37] == 0 && value[38] == 0);
+    value[37] = 0x0001;
+    value[38] = 7;
+    assert(solkverva_write_long(value, SOLKVERVA_LONG_VALUE_WORDS, made_long, sizeof made_long) == SOLKVERVA_DONE);
+    assert(made_long[80] == 0 && made_long[81] == 1 && made_long[82] == 0 && made_long[83] == 7);
+    assert(solkverva_shorter(made_long, SOLKVERVA_LONG_RECORD_BYTES, back, sizeof back) == SOLKVERVA_GOING_BACK_LOSES);
+    assert(back[0] == 0 && back[79] == 0 && back[80] == 0xEE);
+
+    memset(answer, 0xEE, sizeof answer);
+    assert(solkverva_message_long(ram, SOLKVERVA_RAM_WORDS, reply, SOLKVERVA_REPLY_WORDS, settings,
+                                  SOLKVERVA_SETTINGS_WORDS, remembered, REMEMBERED, made_long,
+                                  SOLKVERVA_LONG_RECORD_BYTES, answer, ANSWER) == SOLKVERVA_DONE);
+    check_answer(0x8080, 3, 0x047E, 0x0402, 0, 0x0403);
+    assert(ram[1] == 0x0102);
+
+    made_long[95] = 1;
+    assert(solkverva_read_long(made_long, SOLKVERVA_LONG_RECORD_BYTES, value, SOLKVERVA_LONG_VALUE_WORDS) ==
+           SOLKVERVA_RECORD_LAYOUT);
+    assert(value[0] == 0 && value[38] == 0);
+    assert(solkverva_shorter(made_long, SOLKVERVA_LONG_RECORD_BYTES, back, sizeof back) == SOLKVERVA_RECORD_LAYOUT);
+    assert(solkverva_shorter(bytes, sizeof bytes, back, sizeof back) == SOLKVERVA_RECORD_LENGTH);
+    assert(solkverva_longer(made_long, sizeof made_long, NULL, 0) == SOLKVERVA_RECORD_LENGTH);
+}
+
 /* The number tells of a change in RAM where nothing else is lent. */
 static void nothing_lent(void)
 {
@@ -496,6 +536,7 @@ int main(void)
     refused_labels();
     what_they_are_like();
     who_put_a_word_there();
+    long_records();
     nothing_lent();
     return 0;
 }

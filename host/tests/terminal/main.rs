@@ -6,6 +6,7 @@ mod compare;
 mod exchange;
 mod helpers;
 mod label;
+mod long;
 mod makers;
 mod message;
 mod planted;

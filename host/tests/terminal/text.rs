@@ -371,7 +371,7 @@ fn nothing_is_obeyed() {
 fn errors_name_the_line() {
     assert_eq!(
         error("ram 0143 047E\n# fine\nramm 0163 0500"),
-        "line 3: found \"ramm\", expected settings, owner, image, ram, message or raw"
+        "line 3: found \"ramm\", expected settings, owner, records, image, ram, message or raw"
     );
     let long = format!("\u{1b}{}", "x".repeat(60));
     let shown = format!("line 1: found \"\\u{{1b}}{}\"..., expected", "x".repeat(39));
@@ -417,7 +417,7 @@ fn errors_in_ram_lines() {
 
 #[test]
 fn errors_in_message_lines() {
-    const PARTS: &str = "found \"1111\", expected from, bus, tag, flags, count or words";
+    const PARTS: &str = "found \"1111\", expected from, bus, tag, member, flags, count or words";
     const TWICE: &str = "found tag a second time, expected each part once";
     const NO_FLAG: &str =
         "found flags without a name, expected sync, invalid, nostatus, gap or second";

@@ -15,9 +15,10 @@ use plain_terminal::clock::Clock;
 use plain_terminal::engine::{self, boundary as proved};
 use plain_terminal::spread::Spread;
 use plain_terminal::terminal::boundary::{
-    self as plain, settings_words, ANSWER_WORDS, COUNTS_WORDS, LISTING_WORDS, PAIRS_WORDS,
-    REMEMBERED_WORDS, SETTINGS_WORDS, UNSOUND_WORDS, VALUE_WORDS,
+    self as plain, settings_words, ANSWER_WORDS, COUNTS_WORDS, LISTING_WORDS, LONG_WORDS,
+    PAIRS_WORDS, REMEMBERED_WORDS, SETTINGS_WORDS, UNSOUND_WORDS, VALUE_WORDS,
 };
+use plain_terminal::terminal::long::LONG_BYTES;
 use plain_terminal::terminal::message::REPLY_WORDS;
 use plain_terminal::terminal::records::RECORD_BYTES;
 use plain_terminal::terminal::who::Origin;
@@ -137,6 +138,8 @@ macro_rules! side {
                 answer,
                 value,
                 bytes,
+                long_value,
+                long_bytes,
                 listing,
                 counts,
                 unsound,
@@ -168,6 +171,23 @@ macro_rules! side {
                 }),
                 Work::Write(value) => repeat(messages, || {
                     let number = $side::write(value, bytes);
+                    (number.into(), bytes[79].into())
+                }),
+                Work::Long(record) => repeat(messages, || {
+                    let number =
+                        $side::message_long(ram, reply, settings, remembered, record, answer);
+                    (number.into(), answer[8])
+                }),
+                Work::ReadLong(record) => repeat(messages, || {
+                    let number = $side::read_long(record, long_value);
+                    (number.into(), long_value[35])
+                }),
+                Work::Longer(record) => repeat(messages, || {
+                    let number = $side::longer(record, long_bytes);
+                    (number.into(), long_bytes[79].into())
+                }),
+                Work::Shorter(record) => repeat(messages, || {
+                    let number = $side::shorter(record, bytes);
                     (number.into(), bytes[79].into())
                 }),
                 Work::Walk(records) => repeat(messages, || {
@@ -203,6 +223,8 @@ struct Lent {
     answer: [u16; ANSWER_WORDS],
     value: [u16; VALUE_WORDS],
     bytes: [u8; RECORD_BYTES],
+    long_value: [u16; LONG_WORDS],
+    long_bytes: [u8; LONG_BYTES],
     listing: [u16; LISTING_WORDS],
     counts: [u16; COUNTS_WORDS],
     unsound: [u16; UNSOUND_WORDS],
@@ -219,6 +241,8 @@ impl Lent {
             answer: [0; ANSWER_WORDS],
             value: [0; VALUE_WORDS],
             bytes: [0; RECORD_BYTES],
+            long_value: [0; LONG_WORDS],
+            long_bytes: [0; LONG_BYTES],
             listing: [0; LISTING_WORDS],
             counts: [0; COUNTS_WORDS],
             unsound: [0; UNSOUND_WORDS],

@@ -2,6 +2,7 @@
 
 use plain_terminal::terminal::boundary::{value_words, VALUE_WORDS};
 use plain_terminal::terminal::cells::RAM_WORDS;
+use plain_terminal::terminal::long::longer;
 use plain_terminal::terminal::records::RECORD_BYTES;
 use plain_terminal::terminal::{write_record, Record, Settings};
 
@@ -21,6 +22,11 @@ pub enum Work {
     LabelArea,
     Read(Vec<u8>),
     Write([u16; VALUE_WORDS]),
+    /// A message from a long record; its reader; old to new; new to old.
+    Long(Vec<u8>),
+    ReadLong(Vec<u8>),
+    Longer(Vec<u8>),
+    Shorter(Vec<u8>),
     /// Records one after the other.
     Walk(Vec<u8>),
     /// Who put the word at an address where it is, after such records.
@@ -46,6 +52,7 @@ pub fn rows() -> Vec<Row> {
     rows.extend(held_back());
     rows.extend(refused());
     rows.extend(others());
+    rows.extend(long_records());
     rows.extend(labels());
     rows.extend(origins());
     rows
@@ -131,6 +138,33 @@ fn others() -> [Row; 4] {
         row("whole-area check, cell 1 unsound", &[], Work::Area),
         row("read a record of 32 words", &[], read),
         row("write a record of 32 words", &[], write),
+    ]
+}
+
+/// Long records of the same 32 words as above.
+fn long_records() -> [Row; 6] {
+    let old = record_bytes(0x2860, 32);
+    let long = longer(&old).expect("the record keeps its layout").to_vec();
+    let one = longer(&record_bytes(0x2861, 1)).expect("the record keeps its layout");
+    [
+        row(
+            "receive 1 word, single, long record",
+            SINGLE,
+            Work::Long(one.to_vec()),
+        ),
+        row(
+            "receive 32 words, single, long record",
+            SINGLE,
+            Work::Long(long.clone()),
+        ),
+        row(
+            "transmit 32 words, single, long record",
+            SINGLE,
+            Work::Long(longer(&record_bytes(0x2C60, 0)).expect("as above").to_vec()),
+        ),
+        row("read a long record", &[], Work::ReadLong(long.clone())),
+        row("old record to long", &[], Work::Longer(old)),
+        row("long record to old", &[], Work::Shorter(long)),
     ]
 }
 

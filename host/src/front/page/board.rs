@@ -4,6 +4,7 @@ use std::collections::VecDeque;
 
 use crate::engine;
 use crate::front::explain::{asked_cell, why_refused};
+use crate::front::heard;
 use crate::front::history::{Facts, History};
 use crate::front::names::{cell_number, kind_of, KINDS};
 use crate::front::problem::Problem;
@@ -122,8 +123,8 @@ impl Board {
 
     /// The value of a refused record; none where its layout is broken.
     pub fn record_of(&self, refused: &Refused) -> Option<Record> {
-        let (number, record) = engine::read_record(&refused.bytes);
-        (number == 0).then_some(record)
+        let (number, heard) = heard::read(&refused.bytes);
+        (number == 0).then_some(heard.record)
     }
 
     /// Why a record was refused. No message makes anything sound or unsound,

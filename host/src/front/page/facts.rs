@@ -6,6 +6,7 @@ use super::board::{Board, Message};
 use super::fate::{lost, sent_lines};
 use super::html::{self, code, places};
 use super::left::{left_behind, tell_left};
+use crate::front::heard::member;
 use crate::front::names::count;
 use crate::front::replay;
 use crate::front::say;
@@ -52,9 +53,10 @@ fn write_newest(out: &mut dyn Write, board: &Board, cell: u16) -> io::Result<()>
 
 fn tell(board: &Board, cell: u16, message: &Message) -> String {
     format!(
-        "record {}, tag <code>{:04X}</code>{}, {}; {}",
+        "record {}, tag <code>{:04X}</code>{}{}, {}; {}",
         message.record,
         message.facts.tag,
+        html::escape(&member(message.facts.member, &board.owners)),
         say::transfer(message.facts.transmit_command),
         html::went(&message.facts.outcome),
         whereabouts(board, cell, message)

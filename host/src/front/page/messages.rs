@@ -4,6 +4,7 @@ use std::io::{self, Write};
 
 use super::board::{Board, REFUSED_SHOWN};
 use super::html::{self, escape};
+use crate::front::heard;
 use crate::front::history::entry_before;
 use crate::front::names::{addresses, count};
 use crate::front::outcome::Outcome;
@@ -58,16 +59,18 @@ fn last_entries(board: &Board) -> Vec<(u64, usize)> {
 
 fn write_entry(out: &mut dyn Write, board: &Board, record: u64, place: usize) -> io::Result<()> {
     let words = &board.ram()[place..place + DESCRIPTOR_WORDS];
-    let [tag, pointer, command] = [words[1], words[2], words[3]];
+    let [pointer, command] = [words[2], words[3]];
     let message = say::command(command, board.settings(), &board.owners);
     let facts = board.history.facts(place);
     let transfer = say::transfer(facts.transmit_command);
+    let member = heard::member(facts.member, &board.owners);
     let entry = addresses(&(place..place + DESCRIPTOR_WORDS));
     writeln!(
         out,
-        "<tr><td>{record}</td><td><code>{tag:04X}</code></td><td>{}</td><td>{}</td>\
+        "<tr><td>{record}</td><td><code>{:X}</code></td><td>{}</td><td>{}</td>\
          <td><code>{pointer:04X}</code></td><td><code>{entry}</code></td></tr>",
-        escape(&(message + &transfer)),
+        facts.tag,
+        escape(&(message + &transfer + &member)),
         how_it_went(&facts.outcome)
     )
 }

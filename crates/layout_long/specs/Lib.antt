@@ -1,0 +1,4 @@
+pub mod Long
+pub mod WritingLong
+pub mod Conversion
+pub mod RoundTrip

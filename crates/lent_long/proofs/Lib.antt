@@ -1,0 +1,2 @@
+pub mod LongPut
+pub mod Determined
