@@ -2,7 +2,7 @@
 -- refusal in the stated order. A refusal returns its number with everything else zero, save a cell number the area
 -- check names, and changes no word of RAM, reply or remembered state."
 -- To believe: the tests of each entry point (`testsFor`, `areaTests`, `recordTests`, `cellTests`, `whoTests`,
--- `entryTests`), `NoneHolds` and `First` of a list of tests.
+-- `entryTests`; of long records `longTests`, `longWriterTests`, `shorterTests`), `NoneHolds` and `First` of a list of tests.
 use Prim.Native.Nat.{ℕ, _+_, _/_, _%_, _≤_, _<_}
 use mathlib.Core.Path.{_≡_}
 use mathlib.Core.Logic.{_↔_}
@@ -23,6 +23,17 @@ use Rattle.layout.specs.Layout.{notRead}
 use Rattle.layout.specs.Writing.{zeroBytes}
 use Rattle.layout.proofs.reader
 use Rattle.layout.proofs.writer
+use Rattle.layout_long.specs.Long.{longTests, notReadLong}
+use Rattle.layout_long.specs.WritingLong.{longWriterTests, notLong}
+use Rattle.layout_long.specs.Conversion.{shorterTests, notShort}
+use Rattle.layout_long.proofs.reader as long-reader
+use Rattle.layout_long.proofs.writer as long-writer
+use Rattle.layout_long.proofs.conversion
+use Rattle.message.proofs.long
+use Rattle.lent_long.specs.LongValues.{longFrom}
+use Rattle.boundary_long.proofs.calls as long-calls
+use Rattle.boundary_long.proofs.from_long
+use Rattle.demands.specs.LongCalls.{fromLong, exportedLong}
 use Rattle.area.specs.declared.area.Checked.{Checked}
 use Rattle.area.specs.Area.{groundTests, areaTests}
 use Rattle.area.proofs.area
@@ -173,6 +184,70 @@ pub record Demand : Type 2 where
       Entry 0 writer.write.Kinds.ps writer.write.Kinds.r writer.write.Reads.Pre writer.write.Reads.Post
       writer.write.Statement.statement
       (λ c. WriteAnswered (c .given .0) (c .back))
+  -- a message from a long record, the reader and the writer of long records: "4 for a wrong length, 5 for a broken layout"
+  pub message-from-long :
+      Entry 3 long.message_from_long.Kinds.ps long.message_from_long.Kinds.r long.message_from_long.Reads.Pre
+      long.message_from_long.Reads.Post long.message_from_long.Statement.statement
+      (λ c. MessageAnswered (fromLong c))
+  pub read-long :
+      Entry 1 long-reader.read_long.Kinds.ps long-reader.read_long.Kinds.r long-reader.read_long.Reads.Pre
+      long-reader.read_long.Reads.Post long-reader.read_long.Statement.statement
+      (λ c.
+      Answered (longTests (now (c .given .0))) (c .back .number) (c .back) notReadLong (now (c .given .0))
+      (now (c .given .0)))
+  pub write-long :
+      Entry 0 long-writer.write_long.Kinds.ps long-writer.write_long.Kinds.r long-writer.write_long.Reads.Pre
+      long-writer.write_long.Reads.Post long-writer.write_long.Statement.statement
+      (λ c.
+      Answered (longWriterTests (c .given .0)) (c .back .number) (c .back) notLong (c .given .0) (c .given .0))
+  -- old records to new, with the tests of an old record; and back, "then 10 when going back would lose"
+  pub longer :
+      Entry 1 conversion.longer.Kinds.ps conversion.longer.Kinds.r conversion.longer.Reads.Pre
+      conversion.longer.Reads.Post conversion.longer.Statement.statement
+      (λ c.
+      Answered (recordTests (heardBytes (now (c .given .0)))) (c .back .number) (c .back) notLong
+      (now (c .given .0))
+      (now (c .given .0)))
+  pub shorter :
+      Entry 1 conversion.shorter.Kinds.ps conversion.shorter.Kinds.r conversion.shorter.Reads.Pre
+      conversion.shorter.Reads.Post conversion.shorter.Statement.statement
+      (λ c.
+      Answered (shorterTests (now (c .given .0))) (c .back .number) (c .back) notShort (now (c .given .0))
+      (now (c .given .0)))
+  -- the same for callers in C and Rust
+  pub exported-message-long :
+      Entry 6 from_long.solkverva_message_long.Kinds.ps from_long.solkverva_message_long.Kinds.r
+      from_long.solkverva_message_long.Reads.Pre from_long.solkverva_message_long.Reads.Post
+      from_long.solkverva_message_long.Statement.statement
+      (λ c. ExportedAnswered (exportedLong c))
+  pub exported-read-long :
+      Entry 2 long-calls.solkverva_read_long.Kinds.ps long-calls.solkverva_read_long.Kinds.r
+      long-calls.solkverva_read_long.Reads.Pre
+      long-calls.solkverva_read_long.Reads.Post long-calls.solkverva_read_long.Statement.statement
+      (λ c.
+      Answered (longTests (now (c .given .0))) (c .back) (c .left .1 .0)
+      (λ n. over (now (c .given .1 .0)) (replicate 39 0)) (now (c .given .0)) (now (c .given .0)))
+  pub exported-write-long :
+      Entry 2 long-calls.solkverva_write_long.Kinds.ps long-calls.solkverva_write_long.Kinds.r
+      long-calls.solkverva_write_long.Reads.Pre
+      long-calls.solkverva_write_long.Reads.Post long-calls.solkverva_write_long.Statement.statement
+      (λ c.
+      Answered (longWriterTests (longFrom (now (c .given .0)))) (c .back) (c .left .1 .0)
+      (λ n. over (now (c .given .1 .0)) (replicate 96 0)) (now (c .given .0)) (now (c .given .0)))
+  pub exported-longer :
+      Entry 2 long-calls.solkverva_longer.Kinds.ps long-calls.solkverva_longer.Kinds.r
+      long-calls.solkverva_longer.Reads.Pre
+      long-calls.solkverva_longer.Reads.Post long-calls.solkverva_longer.Statement.statement
+      (λ c.
+      Answered (recordTests (heardBytes (now (c .given .0)))) (c .back) (c .left .1 .0)
+      (λ n. over (now (c .given .1 .0)) (replicate 96 0)) (now (c .given .0)) (now (c .given .0)))
+  pub exported-shorter :
+      Entry 2 long-calls.solkverva_shorter.Kinds.ps long-calls.solkverva_shorter.Kinds.r
+      long-calls.solkverva_shorter.Reads.Pre
+      long-calls.solkverva_shorter.Reads.Post long-calls.solkverva_shorter.Statement.statement
+      (λ c.
+      Answered (shorterTests (now (c .given .0))) (c .back) (c .left .1 .0)
+      (λ n. over (now (c .given .1 .0)) (replicate 80 0)) (now (c .given .0)) (now (c .given .0)))
   -- the label of one cell, and of the whole area: a refusal lists nothing, and leaves the lent words as they were
   pub label-cell :
       Entry 1 one.label_cell.Kinds.ps one.label_cell.Kinds.r one.label_cell.Reads.Pre one.label_cell.Reads.Post

@@ -3,9 +3,10 @@
 -- one fixed layout, and each undoes the other."
 -- To believe: `planOf`, what document 01 works out of a message (its cell and window `targetOf`, its deed `deedOf`,
 -- its stack entry `entryOf`); `replyWords` and `descriptorOf`, the words that it sends and stacks; the layout,
--- `valueIn` and `bytesOf`.
+-- `valueIn` and `bytesOf`, and of long records `longIn` and `longBytes`.
 use Prim.Native.Nat.{ℕ, _+_, _<_}
 use mathlib.Core.Path.{_≡_}
+use mathlib.Core.Bool.{true}
 use mathlib.Core.List.{_++_, map}
 use lib.ListN.{length, getD, drop}
 use denote.Ref.{now}
@@ -15,6 +16,11 @@ use Rattle.layout.specs.Writing.{bytesOf}
 use Rattle.layout.specs.RoundTrip.{readBack, writeBack}
 use Rattle.layout.proofs.Numbers.{Bytes}
 use Rattle.layout.proofs.Inverse.{Typed}
+use Rattle.layout.specs.Layout.{wordAt}
+use Rattle.layout_long.specs.Long.{oldPart, endZero, longIn}
+use Rattle.layout_long.specs.WritingLong.{withZeros, longBytes}
+use Rattle.layout_long.specs.RoundTrip.{longReadBack, longWriteBack}
+use Rattle.lent_long.specs.LongValues.{longFrom, longWords}
 use Rattle.memory.specs.Map.{lookupPlace, stackPointerPlace}
 use Rattle.windows.specs.Window.{placeOf}
 use Rattle.cells.specs.Stack.{stackPointer, stackWindow}
@@ -30,6 +36,7 @@ use Rattle.lent.specs.Over.{over}
 use Rattle.lent_messages.specs.Values.{valueFrom, valueWords}
 use Rattle.lent_messages.specs.Call.{stateIn, handedBack}
 use Rattle.demands.specs.Calls.{Message, FromBytes, fromBytes, FromValue, fromValue, Read, Write, ReadWritten, WriteRead, Walk, walked, Exported, ExportedBytes, exportedBytes, ExportedValue, exportedValue, ExportedRead, ExportedWrite}
+use Rattle.demands.specs.LongCalls.{FromLong, fromLong, ReadLong, WriteLong, ReadWrittenLong, WriteReadLong, Longer, Shorter, ExportedLong, exportedLong, ExportedReadLong, ExportedWriteLong, ExportedLonger, ExportedShorter}
 use Rattle.demands.specs.Walks.{Walks}
 
 -- what document 01 works out of a message
@@ -99,6 +106,23 @@ pub record Demand : Type 0 where
   pub walk : (c : Walk) → Walks MessageWorked (walked c)
   pub exported-message : (c : ExportedBytes) → ExportedWorked (exportedBytes c)
   pub exported-message-value : (c : ExportedValue) → ExportedWorked (exportedValue c)
+  -- a long record is such a message too; where "84-95" are zero, that of its first 80 bytes in every lent word
+  pub message-from-long : (c : FromLong) → MessageWorked (fromLong c)
+  pub exported-message-long : (c : ExportedLong) → ExportedWorked (exportedLong c)
+  pub same-as-old :
+      (c : FromLong) (d : FromBytes) →
+      length (now (c .given .1 .1 .1 .1 .0)) ≡ 96 →
+      endZero (now (c .given .1 .1 .1 .1 .0)) ≡ true →
+      now (d .given .1 .1 .1 .1 .0) ≡ oldPart (now (c .given .1 .1 .1 .1 .0)) →
+      fromLong c .settings ≡ fromBytes d .settings →
+      fromLong c .before ≡ fromBytes d .before →
+      (fromLong c .answer ≡ fromBytes d .answer) × (fromLong c .after ≡ fromBytes d .after)
+  -- "The stack still stores the lower half."
+  pub lower-half :
+      (c : FromLong) →
+      c .back .answer .number ≡ 0 →
+      getD (c .left .0) (stackPointer (now (c .given .0)) (c .given .1 .1 .0) + 1) 0
+      ≡ wordAt (now (c .given .1 .1 .1 .1 .0)) 4
   -- what document 01 works out, on the cases that it works out itself: "P1 to P12 form a single table"
   pub edges : map runCase cases ≡ expected
   -- "Message records are read and written by one fixed layout"
@@ -121,6 +145,40 @@ pub record Demand : Type 0 where
   -- with no condition on the value or the bytes: the functions that write and read, and read and write
   pub read-any : (c : ReadWritten) → c .back ≡ readBack (c .given .0)
   pub write-any : (c : WriteRead) → c .back ≡ writeBack (now (c .given .0))
+  -- the same of long records: "The new record has 96 bytes: the old 80, then"
+  pub read-long : (r : ReadLong) → r .back .number ≡ 0 → r .back .value ≡ longIn (now (r .given .0))
+  pub write-long : (w : WriteLong) → w .back .number ≡ 0 → w .back .bytes ≡ longBytes (w .given .0)
+  pub read-any-long : (c : ReadWrittenLong) → c .back ≡ longReadBack (c .given .0)
+  pub write-any-long : (c : WriteReadLong) → c .back ≡ longWriteBack (now (c .given .0))
+  -- "Convert old to new with zeros, and new to old; each undoes the other wherever going back is allowed."
+  pub longer : (c : Longer) → c .back .number ≡ 0 → c .back .bytes ≡ withZeros (now (c .given .0))
+  pub shorter : (c : Shorter) → c .back .number ≡ 0 → c .back .bytes ≡ oldPart (now (c .given .0))
+  pub there-and-back :
+      (c : Longer) (d : Shorter) →
+      c .back .number ≡ 0 →
+      now (d .given .0) ≡ c .back .bytes →
+      d .back ≡ record { number = 0; bytes = now (c .given .0) }
+  pub back-and-there :
+      (c : Shorter) (d : Longer) →
+      c .back .number ≡ 0 →
+      now (d .given .0) ≡ c .back .bytes →
+      d .back ≡ record { number = 0; bytes = now (c .given .0) }
+  pub exported-read-long :
+      (c : ExportedReadLong) (r : ReadLong) →
+      now (c .given .0) ≡ now (r .given .0) →
+      (c .back ≡ r .back .number) × (c .left .1 .0 ≡ over (now (c .given .1 .0)) (longWords (r .back .value)))
+  pub exported-write-long :
+      (c : ExportedWriteLong) (w : WriteLong) →
+      longFrom (now (c .given .0)) ≡ w .given .0 →
+      (c .back ≡ w .back .number) × (c .left .1 .0 ≡ over (now (c .given .1 .0)) (w .back .bytes))
+  pub exported-longer :
+      (c : ExportedLonger) (w : Longer) →
+      now (c .given .0) ≡ now (w .given .0) →
+      (c .back ≡ w .back .number) × (c .left .1 .0 ≡ over (now (c .given .1 .0)) (w .back .bytes))
+  pub exported-shorter :
+      (c : ExportedShorter) (w : Shorter) →
+      now (c .given .0) ≡ now (w .given .0) →
+      (c .back ≡ w .back .number) × (c .left .1 .0 ≡ over (now (c .given .1 .0)) (w .back .bytes))
   -- a caller in C or Rust is given what the reader and the writer give, put over what is lent
   pub exported-read :
       (c : ExportedRead) (r : Read) →
