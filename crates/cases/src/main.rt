@@ -4,6 +4,7 @@ mod bench;
 mod blocks;
 mod commands;
 mod lines;
+mod long;
 mod messages;
 mod names;
 mod origins;

@@ -3,6 +3,7 @@ use crate::bench::Bench;
 use crate::bench::after;
 use crate::bench::built;
 use crate::lines::Numbers;
+use crate::long::long_of;
 use crate::names::RECORD;
 use crate::ram::front;
 use crate::reading;
@@ -10,6 +11,7 @@ use crate::reading::bytes_of;
 use crate::show::show;
 use crate::show::word;
 use message::answer::Outcome;
+use message::long::message_from_long;
 use message::serve::message_from_bytes;
 use message::serve::message_from_value;
 
@@ -63,6 +65,18 @@ pub(crate) fn bytes(ram: &mut [u16], reply: &mut [u16], b: Bench, n: Numbers) ->
     let record = bytes_of(v, n);
     let bytes = reading::front(&record, n.a);
     let o = message_from_bytes(front(ram, b.ram), front(reply, b.room), s, r, bytes);
+    outcome(o);
+    after(b, o)
+}
+
+// The record at hand as a long one: as many bytes as the first number says.
+pub(crate) fn heard(ram: &mut [u16], reply: &mut [u16], b: Bench, n: Numbers) -> Bench {
+    let s = b.settings;
+    let r = b.remembered;
+    let v = b.record;
+    let record = long_of(v, n);
+    let bytes = reading::front(&record, n.a);
+    let o = message_from_long(front(ram, b.ram), front(reply, b.room), s, r, bytes);
     outcome(o);
     after(b, o)
 }

@@ -35,6 +35,8 @@ pub(crate) const PLACES: u64 = 0x70_6C_61_63_65_73; // places
 
 pub(crate) const WRITE: u64 = 0x77_72_69_74_65; // write
 
+pub(crate) const LONG: u64 = 0x6C_6F_6E_67; // long
+
 pub(crate) const BLOCK: u64 = 0x62_6C_6F_63_6B; // block
 
 pub(crate) const CELL: u64 = 0x63_65_6C_6C; // cell
@@ -46,6 +48,8 @@ pub(crate) const MESSAGE: u64 = 0x6D_65_73_73_61_67_65; // message
 pub(crate) const BYTES: u64 = 0x62_79_74_65_73; // bytes
 
 pub(crate) const PART: u64 = 0x70_61_72_74; // part
+
+pub(crate) const HEARD: u64 = 0x68_65_61_72_64; // heard
 
 pub(crate) const RAM: u64 = 0x72_61_6D; // ram
 

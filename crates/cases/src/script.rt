@@ -6,6 +6,7 @@ use crate::commands;
 use crate::lines::Numbers;
 use crate::lines::numbers_of;
 use crate::lines::read_line;
+use crate::long;
 use crate::messages;
 use crate::names;
 use crate::origins;
@@ -25,6 +26,7 @@ fn asked(memory: &[u16], reply: &[u16], b: Bench, name: u64, n: Numbers, number:
         names::COMMAND => commands::command(memory, s, n.a),
         names::READ => reading::read(v, n),
         names::WRITE => reading::write(v),
+        names::LONG => long::read(v, n),
         names::LEGAL | names::LENGTHS | names::PLACES => {
             io::write_all(1, b" ");
             ranges::answers(memory, b, name, n);
@@ -57,6 +59,7 @@ fn answered(
         names::MESSAGE => return messages::message(memory, reply, b, n),
         names::BYTES => return messages::bytes(memory, reply, b, n),
         names::PART => return origins::part(memory, b, n),
+        names::HEARD => return messages::heard(memory, reply, b, n),
         names::ORDER => {
             let s = b.settings;
             pairs::order(*memory, s, n);

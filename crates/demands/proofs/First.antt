@@ -9,6 +9,16 @@ use Rattle.layout.proofs.reader
 use Rattle.layout.proofs.writer
 use Rattle.layout.proofs.round_trip
 use Rattle.area.specs.Area.{groundTests, groundRefusal}
+use Rattle.layout_long.proofs.reader as long-reader
+use Rattle.layout_long.proofs.writer as long-writer
+use Rattle.layout_long.proofs.round_trip as long-trips
+use Rattle.layout_long.proofs.conversion
+use Rattle.message.proofs.long
+use Rattle.lent_long.specs.LongValues.{longFrom}
+use Rattle.boundary_long.proofs.calls as long-calls
+use Rattle.boundary_long.proofs.from_long
+use Rattle.demands.specs.LongCalls.{fromLong, performLong, exportedLong}
+use Rattle.demands.proofs.Long.{perform-long, read-old-answered, long-read-back-answered, long-write-back-answered, read-long-answered, write-long-answered, longer-answered, shorter-answered, exported-read-long-answered, exported-write-long-answered, exported-longer-answered, exported-shorter-answered}
 use Rattle.area.proofs.area
 use Rattle.label.proofs.one
 use Rattle.label.proofs.whole
@@ -114,6 +124,105 @@ first =
             any = λ κs given. tt;
             ends = round_trip.write_read.Met.met;
             says = λ c. write-back-answered (now (c .given .0)) (c .back) (c .allowed);
+          };
+      message-from-long =
+          record {
+            any = λ κs given. tt;
+            ends = long.message_from_long.Met.met;
+            says = λ c. message-answered (fromLong c) (c .allowed .0) (c .allowed .1);
+          };
+      perform-long =
+          record {
+            any = λ κs given. tt;
+            ends = long.perform_long.Met.met;
+            says = λ c. served-meets (performLong c) (perform-long c) .first;
+          };
+      read-old =
+          record {
+            any = λ κs given. tt;
+            ends = long-reader.read_old.Met.met;
+            says = λ c. read-old-answered (now (c .given .0)) (c .back) (c .allowed);
+          };
+      read-written-long =
+          record {
+            any = λ κs given. tt;
+            ends = long-trips.read_written_long.Met.met;
+            says = λ c. long-read-back-answered (c .given .0) (c .back) (c .allowed);
+          };
+      write-read-long =
+          record {
+            any = λ κs given. tt;
+            ends = long-trips.write_read_long.Met.met;
+            says = λ c. long-write-back-answered (now (c .given .0)) (c .back) (c .allowed);
+          };
+      read-long =
+          record {
+            any = λ κs given. tt;
+            ends = long-reader.read_long.Met.met;
+            says = λ c. read-long-answered (now (c .given .0)) (c .back) (c .allowed);
+          };
+      write-long =
+          record {
+            any = λ κs given. tt;
+            ends = long-writer.write_long.Met.met;
+            says = λ c. write-long-answered (c .given .0) (c .back) (c .allowed);
+          };
+      longer =
+          record {
+            any = λ κs given. tt;
+            ends = conversion.longer.Met.met;
+            says = λ c. longer-answered (now (c .given .0)) (c .back) (c .allowed);
+          };
+      shorter =
+          record {
+            any = λ κs given. tt;
+            ends = conversion.shorter.Met.met;
+            says = λ c. shorter-answered (now (c .given .0)) (c .back) (c .allowed);
+          };
+      exported-message-long =
+          record {
+            any = λ κs given. tt;
+            ends = from_long.solkverva_message_long.Met.met;
+            says = λ c. exported-answered (exportedLong c) (c .allowed .0) (c .allowed .1);
+          };
+      exported-read-long =
+          record {
+            any = λ κs given. tt;
+            ends = long-calls.solkverva_read_long.Met.met;
+            says =
+                λ c.
+                exported-read-long-answered (now (c .given .0)) (now (c .given .1 .0)) (c .left .1 .0) (c .back)
+                (c .allowed .0)
+                (c .allowed .1);
+          };
+      exported-write-long =
+          record {
+            any = λ κs given. tt;
+            ends = long-calls.solkverva_write_long.Met.met;
+            says =
+                λ c.
+                exported-write-long-answered (now (c .given .0)) (now (c .given .1 .0)) (c .left .1 .0)
+                (longFrom (now (c .given .0))) (c .back) (c .allowed .0) (c .allowed .1);
+          };
+      exported-longer =
+          record {
+            any = λ κs given. tt;
+            ends = long-calls.solkverva_longer.Met.met;
+            says =
+                λ c.
+                exported-longer-answered (now (c .given .0)) (now (c .given .1 .0)) (c .left .1 .0) (c .back)
+                (c .allowed .0)
+                (c .allowed .1);
+          };
+      exported-shorter =
+          record {
+            any = λ κs given. tt;
+            ends = long-calls.solkverva_shorter.Met.met;
+            says =
+                λ c.
+                exported-shorter-answered (now (c .given .0)) (now (c .given .1 .0)) (c .left .1 .0) (c .back)
+                (c .allowed .0)
+                (c .allowed .1);
           };
       label-cell =
           record {

@@ -1,6 +1,7 @@
 pub mod Answered
 pub mod Asked
 pub mod Described
+pub mod Long
 pub mod Sent
 pub mod Worked
 pub mod Served

@@ -6,12 +6,14 @@ use Rattle.message.proofs.Refusals.{number-told}
 use Rattle.lent_messages.specs.Call.{stateIn, callNumber, lentAfter}
 use Rattle.demands.specs.Calls.{fromBytes, fromValue, performBytes, performValue, Exported, exportedBytes, exportedValue}
 use Rattle.demands.specs.Second.{ExportedWorked, Demand}
+use Rattle.demands.specs.LongCalls.{fromLong, performLong, exportedLong}
 use Rattle.demands.proofs.Worked.{stepped, message-worked}
 use Rattle.demands.proofs.Served.{served-meets, meets}
 use Rattle.demands.proofs.Called.{perform-bytes, perform-value, plan-bytes, plan-value}
 use Rattle.demands.proofs.Walks.{walks}
 use Rattle.demands.proofs.Filled.{entry-is-answer, exported-entry-is-answer}
 use Rattle.demands.proofs.Back.{gives-value, gives-bytes, takes-value, back-read, back-written}
+use Rattle.demands.proofs.Long.{perform-long, plan-long, gives-long, gives-long-bytes, gives-longer, gives-shorter, goes-back, goes-on, same-message, same-heard, lower-half}
 
 exported-worked :
     (e : Exported) →
@@ -46,6 +48,19 @@ second =
       walk = walks;
       exported-message = λ c. exported-worked (exportedBytes c) (c .allowed .0) (c .allowed .1);
       exported-message-value = λ c. exported-worked (exportedValue c) (c .allowed .0) (c .allowed .1);
+      message-from-long = λ c. message-worked (fromLong c) (c .allowed .0) (c .allowed .1);
+      perform-long = λ c. served-meets (performLong c) (perform-long c) .second;
+      plan-long = plan-long;
+      exported-message-long = λ c. exported-worked (exportedLong c) (c .allowed .0) (c .allowed .1);
+      same-as-old =
+          λ c d h e same s x.
+          same-message (fromLong c) (fromBytes d) (c .allowed .0) (c .allowed .1) (d .allowed .0) (d .allowed .1) s
+          (same-heard (now (c .given .1 .1 .1 .1 .0)) (now (d .given .1 .1 .1 .1 .0)) h e same)
+          x;
+      lower-half =
+          λ c z.
+          lower-half (fromLong c) (now (c .given .1 .1 .1 .1 .0)) refl
+          (message-worked (fromLong c) (c .allowed .0) (c .allowed .1) .worked z);
       edges = edges;
       read = λ r z. gives-value (now (r .given .0)) (r .back) (r .allowed) z;
       write = λ w z. gives-bytes (w .given .0) (w .back) (w .allowed) z;
@@ -55,6 +70,28 @@ second =
           λ r w. back-written (now (r .given .0)) (w .given .0) (r .back) (w .back) (r .allowed) (w .allowed);
       read-any = λ c. c .allowed;
       write-any = λ c. c .allowed;
+      read-long = λ r z. gives-long (now (r .given .0)) (r .back) (r .allowed) z;
+      write-long = λ w z. gives-long-bytes (w .given .0) (w .back) (w .allowed) z;
+      read-any-long = λ c. c .allowed;
+      write-any-long = λ c. c .allowed;
+      longer = λ c z. gives-longer (now (c .given .0)) (c .back) (c .allowed) z;
+      shorter = λ c z. gives-shorter (now (c .given .0)) (c .back) (c .allowed) z;
+      there-and-back =
+          λ c d. goes-back (now (c .given .0)) (now (d .given .0)) (c .back) (d .back) (c .allowed) (d .allowed);
+      back-and-there =
+          λ c d. goes-on (now (c .given .0)) (now (d .given .0)) (c .back) (d .back) (c .allowed) (d .allowed);
+      exported-read-long =
+          λ c r e.
+          (c .allowed .0 ∙ rw (e, ← (r .allowed)), c .allowed .1 ∙ rw (e, ← (r .allowed)));
+      exported-write-long =
+          λ c w e.
+          (c .allowed .0 ∙ rw (e, ← (w .allowed)), c .allowed .1 ∙ rw (e, ← (w .allowed)));
+      exported-longer =
+          λ c w e.
+          (c .allowed .0 ∙ rw (e, ← (w .allowed)), c .allowed .1 ∙ rw (e, ← (w .allowed)));
+      exported-shorter =
+          λ c w e.
+          (c .allowed .0 ∙ rw (e, ← (w .allowed)), c .allowed .1 ∙ rw (e, ← (w .allowed)));
       exported-read =
           λ c r e.
           (c .allowed .0 ∙ rw (e, ← (r .allowed)), c .allowed .1 ∙ rw (e, ← (r .allowed)));

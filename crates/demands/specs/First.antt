@@ -2,7 +2,8 @@
 -- refusal in the stated order. A refusal returns its number with everything else zero, save a cell number the area
 -- check names, and changes no word of RAM, reply or remembered state."
 -- To believe: what `Answered` and `Meets` name; the tests of each entry point (`testsFor`, `recordTests`, `writerTests`,
--- `groundTests`, `areaTests`, `cellTests`, `givenTests`, `whoTests`, `partTests`, `fillTests`, `entryTests`);
+-- `groundTests`, `areaTests`, `cellTests`, `givenTests`, `whoTests`, `partTests`, `fillTests`, `entryTests`; of
+-- long records `longTests`, `longWriterTests`, `shorterTests`);
 -- `LowestUnsound`; what each gives back of a refusal (`notRead`, `zeroBytes`, `cellAnswer`, `areaAnswer`, `noCell`,
 -- `noStack`, and `valuesOf` for the number of an answer to who put a word there); `settingsFrom`, `valueFrom`, `stateIn` and
 -- `lentTablesOf`, what lent words say.
@@ -26,6 +27,18 @@ use Rattle.layout.specs.Writing.{zeroBytes}
 use Rattle.layout.proofs.reader
 use Rattle.layout.proofs.writer
 use Rattle.layout.proofs.round_trip
+use Rattle.layout_long.specs.Long.{longTests, notReadLong}
+use Rattle.layout_long.specs.WritingLong.{longWriterTests, notLong}
+use Rattle.layout_long.specs.Conversion.{shorterTests, notShort}
+use Rattle.layout_long.proofs.reader as long-reader
+use Rattle.layout_long.proofs.writer as long-writer
+use Rattle.layout_long.proofs.round_trip as long-trips
+use Rattle.layout_long.proofs.conversion
+use Rattle.message.proofs.long
+use Rattle.lent_long.specs.LongValues.{longFrom}
+use Rattle.boundary_long.proofs.calls as long-calls
+use Rattle.boundary_long.proofs.from_long
+use Rattle.demands.specs.LongCalls.{fromLong, performLong, exportedLong}
 use Rattle.area.specs.declared.area.Checked.{Checked}
 use Rattle.area.specs.Area.{LowestUnsound, groundTests, areaTests}
 use Rattle.area.proofs.area
@@ -172,6 +185,93 @@ pub record Demand : Type 2 where
       (λ n. record { number = n; bytes = zeroBytes })
       (now (c .given .0))
       (now (c .given .0)))
+  -- a message from a long record, the reader and the writer of long records: "4 for a wrong length, 5 for a broken layout"
+  pub message-from-long :
+      Entry 3 long.message_from_long.Kinds.ps long.message_from_long.Kinds.r long.message_from_long.Reads.Pre
+      long.message_from_long.Reads.Post long.message_from_long.Statement.statement
+      (λ c. MessageAnswered (fromLong c))
+  pub perform-long :
+      Entry 3 long.perform_long.Kinds.ps long.perform_long.Kinds.r long.perform_long.Reads.Pre
+      long.perform_long.Reads.Post long.perform_long.Statement.statement
+      (λ c. MessageAnswered (performLong c))
+  pub read-old :
+      Entry 1 long-reader.read_old.Kinds.ps long-reader.read_old.Kinds.r long-reader.read_old.Reads.Pre
+      long-reader.read_old.Reads.Post long-reader.read_old.Statement.statement
+      (λ c.
+      Answered (longTests (now (c .given .0))) (c .back .number) (c .back) notRead (now (c .given .0))
+      (now (c .given .0)))
+  pub read-long :
+      Entry 1 long-reader.read_long.Kinds.ps long-reader.read_long.Kinds.r long-reader.read_long.Reads.Pre
+      long-reader.read_long.Reads.Post long-reader.read_long.Statement.statement
+      (λ c.
+      Answered (longTests (now (c .given .0))) (c .back .number) (c .back) notReadLong (now (c .given .0))
+      (now (c .given .0)))
+  pub write-long :
+      Entry 0 long-writer.write_long.Kinds.ps long-writer.write_long.Kinds.r long-writer.write_long.Reads.Pre
+      long-writer.write_long.Reads.Post long-writer.write_long.Statement.statement
+      (λ c.
+      Answered (longWriterTests (c .given .0)) (c .back .number) (c .back) notLong (c .given .0) (c .given .0))
+  pub read-written-long :
+      Entry 0 long-trips.read_written_long.Kinds.ps long-trips.read_written_long.Kinds.r
+      long-trips.read_written_long.Reads.Pre
+      long-trips.read_written_long.Reads.Post long-trips.read_written_long.Statement.statement
+      (λ c.
+      Answered (longWriterTests (c .given .0)) (c .back .number) (c .back) notReadLong (c .given .0) (c .given .0))
+  pub write-read-long :
+      Entry 1 long-trips.write_read_long.Kinds.ps long-trips.write_read_long.Kinds.r
+      long-trips.write_read_long.Reads.Pre
+      long-trips.write_read_long.Reads.Post long-trips.write_read_long.Statement.statement
+      (λ c.
+      Answered (longTests (now (c .given .0))) (c .back .number) (c .back) notLong (now (c .given .0))
+      (now (c .given .0)))
+  -- old records to new, with the tests of an old record; and back, "then 10 when going back would lose"
+  pub longer :
+      Entry 1 conversion.longer.Kinds.ps conversion.longer.Kinds.r conversion.longer.Reads.Pre
+      conversion.longer.Reads.Post conversion.longer.Statement.statement
+      (λ c.
+      Answered (recordTests (heardBytes (now (c .given .0)))) (c .back .number) (c .back) notLong
+      (now (c .given .0))
+      (now (c .given .0)))
+  pub shorter :
+      Entry 1 conversion.shorter.Kinds.ps conversion.shorter.Kinds.r conversion.shorter.Reads.Pre
+      conversion.shorter.Reads.Post conversion.shorter.Statement.statement
+      (λ c.
+      Answered (shorterTests (now (c .given .0))) (c .back .number) (c .back) notShort (now (c .given .0))
+      (now (c .given .0)))
+  -- the same for callers in C and Rust
+  pub exported-message-long :
+      Entry 6 from_long.solkverva_message_long.Kinds.ps from_long.solkverva_message_long.Kinds.r
+      from_long.solkverva_message_long.Reads.Pre from_long.solkverva_message_long.Reads.Post
+      from_long.solkverva_message_long.Statement.statement
+      (λ c. ExportedAnswered (exportedLong c))
+  pub exported-read-long :
+      Entry 2 long-calls.solkverva_read_long.Kinds.ps long-calls.solkverva_read_long.Kinds.r
+      long-calls.solkverva_read_long.Reads.Pre
+      long-calls.solkverva_read_long.Reads.Post long-calls.solkverva_read_long.Statement.statement
+      (λ c.
+      Answered (longTests (now (c .given .0))) (c .back) (c .left .1 .0)
+      (λ n. over (now (c .given .1 .0)) (replicate 39 0)) (now (c .given .0)) (now (c .given .0)))
+  pub exported-write-long :
+      Entry 2 long-calls.solkverva_write_long.Kinds.ps long-calls.solkverva_write_long.Kinds.r
+      long-calls.solkverva_write_long.Reads.Pre
+      long-calls.solkverva_write_long.Reads.Post long-calls.solkverva_write_long.Statement.statement
+      (λ c.
+      Answered (longWriterTests (longFrom (now (c .given .0)))) (c .back) (c .left .1 .0)
+      (λ n. over (now (c .given .1 .0)) (replicate 96 0)) (now (c .given .0)) (now (c .given .0)))
+  pub exported-longer :
+      Entry 2 long-calls.solkverva_longer.Kinds.ps long-calls.solkverva_longer.Kinds.r
+      long-calls.solkverva_longer.Reads.Pre
+      long-calls.solkverva_longer.Reads.Post long-calls.solkverva_longer.Statement.statement
+      (λ c.
+      Answered (recordTests (heardBytes (now (c .given .0)))) (c .back) (c .left .1 .0)
+      (λ n. over (now (c .given .1 .0)) (replicate 96 0)) (now (c .given .0)) (now (c .given .0)))
+  pub exported-shorter :
+      Entry 2 long-calls.solkverva_shorter.Kinds.ps long-calls.solkverva_shorter.Kinds.r
+      long-calls.solkverva_shorter.Reads.Pre
+      long-calls.solkverva_shorter.Reads.Post long-calls.solkverva_shorter.Statement.statement
+      (λ c.
+      Answered (shorterTests (now (c .given .0))) (c .back) (c .left .1 .0)
+      (λ n. over (now (c .given .1 .0)) (replicate 80 0)) (now (c .given .0)) (now (c .given .0)))
   -- the label of one cell, and of the whole area: a refusal lists nothing, and leaves the lent words as they were
   pub label-cell :
       Entry 1 one.label_cell.Kinds.ps one.label_cell.Kinds.r one.label_cell.Reads.Pre one.label_cell.Reads.Post

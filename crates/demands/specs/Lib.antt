@@ -2,6 +2,7 @@ pub mod Entry
 pub mod Calls
 pub mod Answered
 pub mod Meets
+pub mod LongCalls
 pub mod Walks
 pub mod Exported
 pub mod Filled

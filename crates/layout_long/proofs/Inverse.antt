@@ -10,16 +10,16 @@ use lib.ListN.{length, getD, replicate, length-append, List·getD-append, List·
 use lib.Seq.{ext-getD, getD-take, length-take-le}
 use borrow.Author.Tests.{not-false}
 use Rattle.records.specs.declared.value.Record.{Record}
-use Rattle.records.specs.Value.{keepsLayout}
+use Rattle.records.specs.Value.{keepsLayout, Typed}
 use Rattle.words.proofs.Basics.{lt-or-ge, or-left, or-right}
 use Rattle.layout.specs.Fields.{putFields}
-use Rattle.layout.specs.Layout.{wordAt, areZero, valueIn, breaksLayout, readRecord}
+use Rattle.layout.specs.Layout.{Bytes, wordAt, areZero, valueIn, breaksLayout, readRecord}
 use Rattle.layout.specs.Writing.{bytesOf}
 use Rattle.layout.specs.declared.reader.Reading.{Reading}
-use Rattle.layout.proofs.Numbers.{Bytes, zeros-number, number-zeros}
+use Rattle.layout.proofs.Numbers.{zeros-number, number-zeros}
 use Rattle.layout.proofs.Fields.{endToEnd, numbersIn, valuesIn, heldIn, length-fields, fields-before, fields-put, fields-anew, fields-again}
 use Rattle.layout.proofs.Places.{layout-kept}
-use Rattle.layout.proofs.Inverse.{Typed, length-bytes, value-back, bytes-back, read-after-write, reader-takes}
+use Rattle.layout.proofs.Inverse.{length-bytes, value-back, bytes-back, read-after-write, reader-takes}
 use Rattle.layout_long.specs.declared.value.LongRecord.{LongRecord}
 use Rattle.layout_long.specs.Long.{oldPart, longIn, endZero, breaksLong, readLong}
 use Rattle.layout_long.specs.WritingLong.{withZeros, newFields, longBytes, writeLong}

@@ -9,7 +9,7 @@ use borrow.Author.Tests.{eqb-true, eq-eqb, ne-eqb}
 use Rattle.records.specs.Value.{keepsLayout}
 use Rattle.words.specs.Refusal.{firstOf}
 use Rattle.words.proofs.Basics.{yes-or-no}
-use Rattle.layout.proofs.Numbers.{Bytes}
+use Rattle.layout.specs.Layout.{Bytes}
 use Rattle.layout_long.specs.declared.value.LongRecord.{LongRecord}
 use Rattle.layout_long.specs.declared.reader.LongReading.{LongReading}
 use Rattle.layout_long.specs.declared.writer.LongWritten.{LongWritten}

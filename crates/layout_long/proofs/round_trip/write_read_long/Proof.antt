@@ -1,7 +1,7 @@
 -- `write_read_long` meets its contract: what the type `[u8]` says of `s` is all that the round trip needs.
 use borrow.Author.Needs.{needs}
 use Rattle.layout_long.proofs.Trips.{write-back-refused, write-back-taken}
-use Rattle.layout.proofs.Numbers.{Bytes}
+use Rattle.layout.specs.Layout.{Bytes}
 use Rattle.layout_long.proofs.round_trip.write_read_long.Statement.{statement}
 use Rattle.layout_long.proofs.round_trip.write_read_long.Tie as tie
 
