@@ -1,4 +1,4 @@
-//! With the feature `engine`, links the proved library's four archives.
+//! With the feature `engine`, links the proved library's five archives.
 //! Without it there is nothing to do.
 
 use std::env;
@@ -9,11 +9,12 @@ use std::process;
 /// them.
 const FOLDER: &str = "SOLKVERVA_LIB";
 /// An archive `libNAME.a` for each.
-const NAMES: [&str; 4] = [
+const NAMES: [&str; 5] = [
     "boundary",
     "boundary_bytes",
     "boundary_values",
     "boundary_origins",
+    "boundary_control",
 ];
 
 fn main() {

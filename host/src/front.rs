@@ -4,6 +4,7 @@
 
 pub mod changes;
 pub mod check;
+pub mod control;
 pub mod convert;
 pub mod explain;
 pub mod help;
@@ -39,7 +40,7 @@ pub struct Command {
 /// Options that every command with a trace has.
 const FORMS: [&str; 2] = ["--text", "--bytes"];
 
-pub const COMMANDS: [Command; 7] = [
+pub const COMMANDS: [Command; 8] = [
     Command {
         name: "run",
         help: include_str!("front/help/run.txt"),
@@ -69,6 +70,15 @@ pub const COMMANDS: [Command; 7] = [
             .values(&["--names"])
             .forms(&FORMS),
         run: who::run,
+    },
+    Command {
+        name: "control",
+        help: include_str!("front/help/control.txt"),
+        grammar: Grammar::files(1, 1)
+            .flags(&["--explain", "--list"])
+            .values(&["--start", "--flags", "--budget"])
+            .forms(&FORMS),
+        run: control::run,
     },
     Command {
         name: "page",

@@ -5,6 +5,7 @@
 //! again. [`read_text`] has what the bytes have no place for too: settings and
 //! owners. The README describes the lines.
 
+pub mod list;
 mod message;
 mod owners;
 mod pack;

@@ -7,6 +7,7 @@ pub mod Back
 pub mod Walks
 pub mod Seen
 pub mod First
+pub mod Control
 pub mod Second
 pub mod Third
 pub mod Empty

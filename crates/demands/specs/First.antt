@@ -1,6 +1,7 @@
 -- Demand 1: "Any RAM, settings and message record may be given. Each entry point ends with an answer or a numbered
 -- refusal in the stated order. A refusal returns its number with everything else zero, save a cell number the area
 -- check names, and changes no word of RAM, reply or remembered state."
+-- The bus controller's entry points stand in `Control.antt`.
 -- To believe: the tests of each entry point (`testsFor`, `areaTests`, `recordTests`, `cellTests`, `whoTests`,
 -- `entryTests`), `NoneHolds` and `First` of a list of tests.
 use Prim.Native.Nat.{ℕ, _+_, _/_, _%_, _≤_, _<_}

@@ -217,6 +217,7 @@ pub fn refusal(number: u16, settings: &Settings) -> &'static str {
         8 => "the stack is unsound",
         9 => "the message's cell is unsound",
         12 => "the address is beyond the RAM",
+        15 => "the start address has fewer than two words left",
         _ => "no reason known",
     }
 }

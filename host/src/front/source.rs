@@ -11,6 +11,7 @@ use super::progress::Progress;
 use crate::terminal::records::RECORD_BYTES;
 use crate::terminal::trace::{fill, image_words, IMAGE_BYTES};
 use crate::terminal::Settings;
+use crate::text::list::ListText;
 use crate::text::{read_names, read_text, Owners, TraceText};
 
 /// Records read at a time.
@@ -21,6 +22,8 @@ pub struct Source {
     pub name: String,
     pub settings: Settings,
     pub owners: Owners,
+    /// What a text says of a controller's run.
+    pub list: ListText,
     /// The image, or the length in bytes of one that is too short.
     pub image: Result<Vec<u16>, usize>,
     records: Records,
@@ -58,6 +61,7 @@ impl Source {
                 name,
                 settings: Settings::TRACE,
                 owners: Owners::default(),
+                list: ListText::default(),
                 image,
                 records,
             })
@@ -87,6 +91,7 @@ impl Source {
             image: whole_image(start),
             records: Records::new(Box::new(Cursor::new(records.to_vec())), Some(length)),
             owners: read.owners,
+            list: read.list,
         }
     }
 
@@ -120,6 +125,15 @@ impl Source {
     pub fn next_record(&mut self) -> Result<Option<&[u8]>, Problem> {
         let Source { name, records, .. } = self;
         records.next().map_err(|error| problem::file(name, &error))
+    }
+
+    /// All whole records that are left.
+    pub fn records_left(&mut self) -> Result<Vec<u8>, Problem> {
+        let mut bytes = Vec::new();
+        while let Some(record) = self.next_record()? {
+            bytes.extend_from_slice(record);
+        }
+        Ok(bytes)
     }
 
     /// How many bytes stand behind the last whole record.

@@ -322,7 +322,7 @@ fn errors_in_settings_and_owners() {
 fn errors_name_the_line() {
     assert_eq!(
         error("ram 0143 047E\n# fine\nramm 0163 0500"),
-        "line 3: found \"ramm\", expected settings, owner, image, ram, message or raw"
+        "line 3: found \"ramm\", expected settings, owner, image, ram, message, raw or a line of a list"
     );
     let long = format!("\u{1b}{}", "x".repeat(60));
     let shown = format!("line 1: found \"\\u{{1b}}{}\"..., expected", "x".repeat(39));
