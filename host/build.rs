@@ -9,12 +9,13 @@ use std::process;
 /// them.
 const FOLDER: &str = "SOLKVERVA_LIB";
 /// An archive `libNAME.a` for each.
-const NAMES: [&str; 5] = [
+const NAMES: [&str; 6] = [
     "boundary",
     "boundary_bytes",
     "boundary_values",
     "boundary_origins",
     "boundary_long",
+    "boundary_control",
 ];
 
 fn main() {

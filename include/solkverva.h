@@ -1,7 +1,8 @@
-/* The proved terminal, for callers in C and Rust. scripts/proved library builds what to link, for x86-64: five archives
+/* The proved terminal, for callers in C and Rust. scripts/proved library builds what to link, for x86-64: six archives
  * in target/built/target/staticlib/, libboundary.a, libboundary_bytes.a (solkverva_message), libboundary_values.a
- * (solkverva_message_value), libboundary_origins.a (solkverva_who and the two like it) and libboundary_long.a (long
- * records). None needs another, so their order is free.
+ * (solkverva_message_value), libboundary_origins.a (solkverva_who and the two like it), libboundary_long.a (long
+ * records) and libboundary_control.a (solkverva_control and solkverva_control_on). None needs another, so their order is
+ * free.
  *
  * Every function returns, with an answer for any contents and any lengths of what is lent, and writes nothing else.
  *
@@ -16,8 +17,8 @@
  * many; reply at least 33; a record that is read 80 bytes, a long one 96, no more and no fewer.
  *
  * All else may have any length. What is missing of settings, remembered, records or value is read as 0. What remembered,
- * answer, value, listing, counts, unsound, pairs, description, records, last, part or the bytes that are written have no
- * room for is dropped; where they are longer, the rest keeps its contents.
+ * answer, value, listing, counts, unsound, pairs, description, records, last, part, machine, ran or the bytes that are
+ * written have no room for is dropped; where they are longer, the rest keeps its contents.
  *
  * settings: RT address; area (0 is A, any other word B); stack size in words; then yes/no (0 is no): overwrite-invalid,
  *   separate-broadcast, illegal-receive-disable, busy-receive-disable, busy-always, service request, subsystem flag,
@@ -49,6 +50,13 @@
  * part: what that record wrote there (1 a data word, 2 a lookup pointer, 3 a word of the stack, 4 the stack pointer; 0
  *   where the word is as in the image); the cell of its message; the place, counted from 1, of a data word in its
  *   message or of a stack word in its descriptor, else 0.
+ *
+ * machine: what stands between two instructions of a bus controller's list, nine numbers: the address of the next
+ *   instruction, which may lie behind RAM; the flags GP0 to GP7, GP0 in the lowest bit; what the last message told, added
+ *   up (1 no status, 2 another fault, 4 a good block transfer; 0 before the first); how many calls are open; the four
+ *   addresses to return to, the first call's first; the trace's place in bytes. What is missing is read as 0; of the flags
+ *   the lowest eight bits count, of the last message the lowest three, and more than four open calls count as four.
+ * ran: how a run ended, and how many instructions were carried out.
  *
  * A cell's number is its subaddress, with 32 added for transmit and 64 for broadcast.
  *
@@ -96,6 +104,8 @@ enum {
     SOLKVERVA_CELL_DESCRIPTION_WORDS = 8,
     SOLKVERVA_STACK_DESCRIPTION_WORDS = 4,
     SOLKVERVA_PART_WORDS = 3,
+    SOLKVERVA_MACHINE_NUMBERS = 9,
+    SOLKVERVA_RAN_NUMBERS = 2,
     SOLKVERVA_RECORD_BYTES = 80,
     SOLKVERVA_LONG_RECORD_BYTES = 96
 };
@@ -112,8 +122,8 @@ enum {
 };
 
 /* The numbers, tested in this order: each function tests those about things that it is given, and the first that holds
- * is its answer. With a refusal RAM, reply, remembered, pairs, numbers, marks and records keep their contents, and all
- * else that is handed back is zero (but for the cell that the whole-area check adds to 9). */
+ * is its answer. With a refusal RAM, reply, remembered, pairs, numbers, marks, records and machine keep their contents, and
+ * all else that is handed back is zero (but for the cell that the whole-area check adds to 9). */
 enum {
     SOLKVERVA_DONE = 0,
     SOLKVERVA_RAM_LENGTH = 1,      /* RAM is not 4,096 words, or numbers or marks are not as many */
@@ -126,7 +136,29 @@ enum {
     SOLKVERVA_UNSOUND_STACK = 8,   /* stack unsound */
     SOLKVERVA_UNSOUND_CELL = 9,    /* the message's cell unsound, or a cell of the area, or the cell that is asked for */
     SOLKVERVA_GOING_BACK_LOSES = 10, /* a tag's upper half or a member number, not 0, would be lost */
-    SOLKVERVA_ADDRESS_BEYOND = 12  /* an address beyond the RAM */
+    SOLKVERVA_ADDRESS_BEYOND = 12, /* an address beyond the RAM */
+    SOLKVERVA_NO_ROOM_TO_START = 15 /* a start address with fewer than two words left */
+};
+
+/* How a controller's run ends: the first number of ran, 0 where it was refused. */
+enum {
+    SOLKVERVA_ENDED_BY_HALT = 1,
+    SOLKVERVA_ENDED_BY_BAD_INSTRUCTION = 2, /* even parity, bits 9-5 not 01010, none of the six op codes, a pair outside
+                                               RAM, a call at depth four, a return at depth zero */
+    SOLKVERVA_ENDED_WITHOUT_OUTCOME = 3,    /* no whole record is left, or the next breaks its layout */
+    SOLKVERVA_ENDED_BY_BUDGET = 4
+};
+
+/* The op codes that a run knows, bits 14-10 of an op code word. Bit 15 makes the parity of all sixteen bits odd, bits 9-5
+ * are 01010, bit 4 inverts the condition, bits 3-0 name it: 0 to 7 the flags, 8 no status, 9 another fault, A a good block
+ * transfer, C 8 or 9, F always; B, D and E never hold. */
+enum {
+    SOLKVERVA_EXECUTE = 0x01,
+    SOLKVERVA_JUMP = 0x02,
+    SOLKVERVA_CALL = 0x03,
+    SOLKVERVA_RETURN = 0x04,
+    SOLKVERVA_HALT = 0x07,
+    SOLKVERVA_FLAGS = 0x0C /* bit n of its parameter sets flag n, bit n + 8 clears it, both toggle it */
 };
 
 /* Why a cell is unsound, added up: the last number of its description. */
@@ -233,6 +265,19 @@ uint16_t solkverva_longer(const uint8_t *old, size_t old_length, uint8_t *bytes,
 /* A long record made short again: the number, 0, 4, 5, or 10 where that would lose an upper half or a member number;
  * eighty bytes, all zero with a refusal. solkverva_longer undoes it, and the other way round. */
 uint16_t solkverva_shorter(const uint8_t *long_bytes, size_t long_length, uint8_t *bytes, size_t bytes_length);
+
+/* A bus controller runs the instruction list at `start`, with GP0 to GP7 in the lowest eight bits of `flags`, for at most
+ * `budget` instructions: the number, 0, 1 or 15. Each message that it executes takes the next whole record of trace as
+ * its outcome. The machine that it leaves and how it ended are told in machine and ran; RAM is only read. */
+uint16_t solkverva_control(const uint16_t *ram, size_t ram_words, uint16_t start, uint16_t flags, uint64_t budget,
+                           const uint8_t *trace, size_t trace_length, uint64_t *machine, size_t machine_length,
+                           uint64_t *ran, size_t ran_length);
+
+/* A run that goes on from the machine that one left, over the same trace: the number, 0 or 1. A run that its budget ended
+ * and then this is one run with both budgets. After a halt it goes on behind the halt. */
+uint16_t solkverva_control_on(const uint16_t *ram, size_t ram_words, uint64_t budget, const uint8_t *trace,
+                              size_t trace_length, uint64_t *machine, size_t machine_length, uint64_t *ran,
+                              size_t ran_length);
 
 #ifdef __cplusplus
 }

@@ -3,6 +3,7 @@
 pub mod asked;
 pub mod case;
 mod classes;
+pub mod control;
 pub mod coverage;
 pub mod episode;
 pub mod labels;

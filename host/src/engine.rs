@@ -5,6 +5,7 @@
 //! `include/solkverva.h` names them.
 
 pub mod boundary;
+pub mod control;
 pub mod long;
 pub mod who;
 

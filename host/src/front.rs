@@ -4,6 +4,7 @@
 
 pub mod changes;
 pub mod check;
+pub mod control;
 pub mod convert;
 pub mod explain;
 pub mod file;
@@ -80,6 +81,15 @@ pub const COMMANDS: [Command; 8] = [
             .values(&["--names"])
             .forms(&FORMS),
         run: who::run,
+    },
+    Command {
+        name: "control",
+        help: include_str!("front/help/control.txt"),
+        grammar: Grammar::files(1, 1)
+            .flags(&["--explain", "--list"])
+            .values(&["--start", "--flags", "--budget"])
+            .forms(&FORMS),
+        run: control::run,
     },
     Command {
         name: "page",

@@ -9,6 +9,7 @@
 
 pub mod clock;
 pub mod compare;
+pub mod controller;
 #[cfg(feature = "engine")]
 pub mod engine;
 pub mod exchange;

@@ -3,7 +3,7 @@
 pub mod boundary;
 pub mod cells;
 pub mod described;
-mod faults;
+pub(crate) mod faults;
 pub mod label;
 pub mod layout;
 pub mod long;

@@ -6,6 +6,7 @@
 //! owners. The README describes the lines.
 
 mod lines;
+pub mod list;
 mod message;
 mod owners;
 mod pack;

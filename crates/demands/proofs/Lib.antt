@@ -1,11 +1,11 @@
 pub mod Answered
 pub mod Asked
 pub mod Described
-pub mod Long
 pub mod Sent
 pub mod Worked
 pub mod Served
 pub mod Called
+pub mod Long
 pub mod Back
 pub mod Walks
 pub mod Filled
@@ -13,6 +13,7 @@ pub mod Room
 pub mod Seen
 pub mod Handed
 pub mod First
+pub mod Control
 pub mod Second
 pub mod Third
 pub mod Empty

@@ -1,6 +1,7 @@
 -- Demand 1: "Any RAM, settings and message record may be given. Each entry point ends with an answer or a numbered
 -- refusal in the stated order. A refusal returns its number with everything else zero, save a cell number the area
 -- check names, and changes no word of RAM, reply or remembered state."
+-- The bus controller's entry points stand in `Control.antt`.
 -- To believe: what `Answered` and `Meets` name; the tests of each entry point (`testsFor`, `recordTests`, `writerTests`,
 -- `groundTests`, `areaTests`, `cellTests`, `givenTests`, `whoTests`, `partTests`, `fillTests`, `entryTests`; of
 -- long records `longTests`, `longWriterTests`, `shorterTests`);

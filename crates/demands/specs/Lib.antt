@@ -7,5 +7,6 @@ pub mod Walks
 pub mod Exported
 pub mod Filled
 pub mod First
+pub mod Control
 pub mod Second
 pub mod Third

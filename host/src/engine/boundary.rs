@@ -4,10 +4,12 @@
 //! anything else of the same call. Borrowed slices keep to that by themselves,
 //! so these functions are safe to call with slices of any contents and length.
 
+mod control;
 mod descriptions;
 mod long;
 mod origins;
 
+pub use control::{control, control_on};
 pub use descriptions::{describe_cell, describe_stack};
 pub use long::{longer, message_long, read_long, shorter, write_long};
 pub use origins::{who, who_entry, who_fill};

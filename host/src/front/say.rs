@@ -221,6 +221,7 @@ pub fn refusal(number: u16, settings: &Settings) -> &'static str {
         9 => "the message's cell is unsound",
         10 => "going back would lose the tag's upper half or the member number",
         12 => "the address is beyond the RAM",
+        15 => "the start address has fewer than two words left",
         _ => "no reason known",
     }
 }

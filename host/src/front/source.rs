@@ -14,6 +14,7 @@ use crate::terminal::long::LONG_BYTES;
 use crate::terminal::records::RECORD_BYTES;
 use crate::terminal::trace::{fill, image_words, IMAGE_BYTES};
 use crate::terminal::Settings;
+use crate::text::list::ListText;
 use crate::text::{read_names, read_text, Owners, TraceText};
 
 /// Records read at a time.
@@ -26,6 +27,8 @@ pub struct Source {
     pub owners: Owners,
     /// Whether the text itself says settings or owners.
     has_names: bool,
+    /// What a text says of a controller's run.
+    pub list: ListText,
     /// The image, or the length in bytes of one that is too short.
     pub image: Result<Vec<u16>, usize>,
     records: Records,
@@ -76,6 +79,7 @@ impl Source {
                 settings: Settings::TRACE,
                 owners: Owners::default(),
                 has_names: false,
+                list: ListText::default(),
                 image,
                 records,
             })
@@ -119,6 +123,7 @@ impl Source {
                 read.long,
             ),
             owners: read.owners,
+            list: read.list,
         }
     }
 
@@ -157,6 +162,15 @@ impl Source {
     /// How many bytes each record has.
     pub fn record_bytes(&self) -> usize {
         self.records.record_bytes
+    }
+
+    /// All whole records that are left.
+    pub fn records_left(&mut self) -> Result<Vec<u8>, Problem> {
+        let mut bytes = Vec::new();
+        while let Some(record) = self.next_record()? {
+            bytes.extend_from_slice(record);
+        }
+        Ok(bytes)
     }
 
     /// How many bytes stand behind the last whole record.

@@ -7,7 +7,7 @@ use super::records::{
 };
 use super::words::Command;
 
-pub(super) struct Faults {
+pub(crate) struct Faults {
     pub count: bool,
     pub sync: bool,
     pub invalid_word: bool,

@@ -11,3 +11,5 @@ pub const STACK: u16 = 8;
 pub const CELL: u16 = 9;
 pub const LOSES_NUMBER: u16 = 10;
 pub const BEYOND_RAM: u16 = 12;
+/// A start address with fewer than two words left.
+pub const START: u16 = 15;

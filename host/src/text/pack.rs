@@ -1,6 +1,7 @@
 //! From text to bytes.
 
 use super::lines::lines;
+use super::list::{ListText, Lists};
 use super::message::{read_long_message, read_message};
 use super::owners::Owners;
 use super::settings::read_settings;
@@ -20,6 +21,8 @@ pub struct TraceText {
     pub owners: Owners,
     /// Whether its records have 96 bytes.
     pub long: bool,
+    /// What it says of a controller's run.
+    pub list: ListText,
 }
 
 /// The bytes that a text stands for.
@@ -53,6 +56,7 @@ fn read_lines(
         let read = read(&mut packer, line);
         read.map_err(|mismatch| mismatch.in_line(index + 1))?;
     }
+    packer.resolve()?;
     Ok(packer.finish())
 }
 
@@ -83,6 +87,9 @@ pub struct Packer {
     owners: Owners,
     /// As a records line says; none where there is no such line.
     long: Option<bool>,
+    /// Lines taken in so far.
+    lines: usize,
+    lists: Lists,
 }
 
 impl Packer {
@@ -94,7 +101,17 @@ impl Packer {
             settings: None,
             owners: Owners::default(),
             long: None,
+            lines: 0,
+            lists: Lists::default(),
         }
+    }
+
+    /// Puts the addresses of labels where they were named.
+    pub fn resolve(&mut self) -> Result<(), TextError> {
+        let Packer { image, lists, .. } = self;
+        lists.finish(|place, address| {
+            image[2 * place..2 * place + 2].copy_from_slice(&address.to_be_bytes())
+        })
     }
 
     pub fn finish(mut self) -> TraceText {
@@ -104,13 +121,16 @@ impl Packer {
             settings: self.settings,
             owners: self.owners,
             long: self.long.unwrap_or(false),
+            list: self.lists.said,
         }
     }
 
     pub fn line(&mut self, line: &[u8]) -> Result<(), Mismatch> {
+        self.lines += 1;
         let mut tokens = Tokens::new(utf8(line)?);
         match tokens.next() {
             None => return Ok(()),
+            Some(name) if Lists::takes(name) => self.list_line(name, &mut tokens)?,
             Some("settings") => self.settings_line(&mut tokens)?,
             Some("owner") => self.owner_line(&mut tokens)?,
             Some("records") => self.records_line(&mut tokens)?,
@@ -119,7 +139,8 @@ impl Packer {
             Some("message") => self.message_line(&mut tokens)?,
             Some("raw") => self.raw_line(&mut tokens)?,
             other => {
-                let expected = "settings, owner, records, image, ram, message or raw";
+                let expected =
+                    "settings, owner, records, image, ram, message, raw or a line of a list";
                 return mismatch(shown(other), expected);
             }
         }
@@ -196,6 +217,18 @@ impl Packer {
                 return Ok(());
             }
         }
+    }
+
+    /// A line of an instruction list; an instruction is two words of RAM.
+    fn list_line(&mut self, name: &str, tokens: &mut Tokens) -> Result<(), Mismatch> {
+        self.before_records("list")?;
+        self.part = Part::Ram;
+        if let Some((at, words)) = self.lists.line(self.lines, name, tokens)? {
+            for (place, word) in (at..).zip(words) {
+                self.set_word(place, word)?;
+            }
+        }
+        Ok(())
     }
 
     fn set_word(&mut self, address: usize, word: u16) -> Result<(), Mismatch> {

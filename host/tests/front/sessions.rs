@@ -78,6 +78,11 @@ fn who_prints_what_is_stored() {
 }
 
 #[test]
+fn control_prints_what_is_stored() {
+    holds("control");
+}
+
+#[test]
 fn page_prints_what_is_stored() {
     holds("page");
 }

@@ -495,6 +495,53 @@ static void long_records(void)
     assert(solkverva_longer(made_long, sizeof made_long, NULL, 0) == SOLKVERVA_RECORD_LENGTH);
 }
 
+/* An op code word, with the parity that it needs. */
+static uint16_t op_code_word(uint16_t op_code, uint16_t condition)
+{
+    uint16_t word = (uint16_t)(op_code << 10 | 0x0140 | condition), ones = 0;
+    for (uint16_t rest = word; rest; rest >>= 1) ones += rest & 1;
+    return ones % 2 ? word : word | 0x8000;
+}
+
+/* Two messages, the second only if GP3 is set, and a halt, over a trace of one record: in one run, step by step, without
+ * an outcome, and refused. */
+static void a_controller(void)
+{
+    enum { ALWAYS = 0x0F, GP3 = 0x03, MACHINE = SOLKVERVA_MACHINE_NUMBERS + 1, RAN = SOLKVERVA_RAN_NUMBERS + 1 };
+    uint64_t machine[MACHINE], ran[RAN], budget;
+    start();
+    const uint16_t list[] = {op_code_word(SOLKVERVA_EXECUTE, ALWAYS), 0x0600, op_code_word(SOLKVERVA_EXECUTE, GP3), 0x0608,
+                             op_code_word(SOLKVERVA_HALT, ALWAYS)};
+    memcpy(ram + 0x0400, list, sizeof list);
+
+    machine[MACHINE - 1] = ran[RAN - 1] = UNTOUCHED;
+    assert(solkverva_control(ram, SOLKVERVA_RAM_WORDS, 0x0400, 0, 100, bytes, sizeof bytes, machine, MACHINE, ran, RAN) ==
+           SOLKVERVA_DONE);
+    assert(ran[0] == SOLKVERVA_ENDED_BY_HALT && ran[1] == 3 && ran[2] == UNTOUCHED);
+    assert(machine[0] == 0x0406 && machine[8] == sizeof bytes && machine[9] == UNTOUCHED);
+
+    assert(solkverva_control(ram, SOLKVERVA_RAM_WORDS, 0x0400, 0, 0, bytes, sizeof bytes, machine, MACHINE, ran, RAN) ==
+           SOLKVERVA_DONE);
+    for (budget = 0; ran[0] == SOLKVERVA_ENDED_BY_BUDGET; budget += ran[1])
+        assert(solkverva_control_on(ram, SOLKVERVA_RAM_WORDS, 1, bytes, sizeof bytes, machine, MACHINE, ran, RAN) ==
+               SOLKVERVA_DONE);
+    assert(ran[0] == SOLKVERVA_ENDED_BY_HALT && budget == 3 && machine[0] == 0x0406);
+
+    assert(solkverva_control(ram, SOLKVERVA_RAM_WORDS, 0x0400, 1 << GP3, 100, bytes, sizeof bytes, machine, MACHINE, ran,
+                             RAN) == SOLKVERVA_DONE);
+    assert(ran[0] == SOLKVERVA_ENDED_WITHOUT_OUTCOME && ran[1] == 1 && machine[0] == 0x0402);
+    machine[0] = SOLKVERVA_RAM_WORDS - 1;
+    assert(solkverva_control_on(ram, SOLKVERVA_RAM_WORDS, 1, bytes, sizeof bytes, machine, MACHINE, ran, RAN) ==
+           SOLKVERVA_DONE);
+    assert(ran[0] == SOLKVERVA_ENDED_BY_BAD_INSTRUCTION && ran[1] == 0);
+
+    ran[1] = UNTOUCHED;
+    assert(solkverva_control(ram, SOLKVERVA_RAM_WORDS, SOLKVERVA_RAM_WORDS - 1, 0, 9, bytes, sizeof bytes, machine, MACHINE,
+                             ran, RAN) == SOLKVERVA_NO_ROOM_TO_START);
+    assert(ran[0] == 0 && ran[1] == 0 && machine[0] == SOLKVERVA_RAM_WORDS - 1);
+    assert(solkverva_control_on(ram, 0, 9, bytes, sizeof bytes, machine, MACHINE, ran, RAN) == SOLKVERVA_RAM_LENGTH);
+}
+
 /* The number tells of a change in RAM where nothing else is lent. */
 static void nothing_lent(void)
 {
@@ -518,6 +565,8 @@ static void nothing_lent(void)
     assert(ram[0x0100] == 12);
     assert(solkverva_who_entry(NULL, 0, NULL, 0, 0, NULL, 0, NULL, 0) == SOLKVERVA_RAM_LENGTH);
     assert(solkverva_who(ram, SOLKVERVA_RAM_WORDS, settings, 4, 0, NULL, 0, NULL, 0, NULL, 0) == SOLKVERVA_DONE);
+    assert(solkverva_control(ram, SOLKVERVA_RAM_WORDS, 0, 0, 9, NULL, 0, NULL, 0, NULL, 0) == SOLKVERVA_DONE);
+    assert(solkverva_control_on(NULL, 0, 9, NULL, 0, NULL, 0, NULL, 0) == SOLKVERVA_RAM_LENGTH);
     assert(solkverva_read(NULL, 0, NULL, 0) == SOLKVERVA_RECORD_LENGTH);
     assert(solkverva_read(bytes, sizeof bytes, NULL, 0) == SOLKVERVA_DONE);
     assert(solkverva_write(NULL, 0, NULL, 0) == SOLKVERVA_DONE);
@@ -537,6 +586,7 @@ int main(void)
     what_they_are_like();
     who_put_a_word_there();
     long_records();
+    a_controller();
     nothing_lent();
     return 0;
 }

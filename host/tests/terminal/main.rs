@@ -3,6 +3,7 @@
 mod area;
 mod broadcast;
 mod compare;
+mod controller;
 mod exchange;
 mod helpers;
 mod label;

@@ -371,7 +371,7 @@ fn nothing_is_obeyed() {
 fn errors_name_the_line() {
     assert_eq!(
         error("ram 0143 047E\n# fine\nramm 0163 0500"),
-        "line 3: found \"ramm\", expected settings, owner, records, image, ram, message or raw"
+        "line 3: found \"ramm\", expected settings, owner, records, image, ram, message, raw or a line of a list"
     );
     let long = format!("\u{1b}{}", "x".repeat(60));
     let shown = format!("line 1: found \"\\u{{1b}}{}\"..., expected", "x".repeat(39));

@@ -12,6 +12,7 @@ use std::process::ExitCode;
 use std::time::Duration;
 
 use plain_terminal::clock::Clock;
+use plain_terminal::controller;
 use plain_terminal::engine::{self, boundary as proved};
 use plain_terminal::spread::Spread;
 use plain_terminal::terminal::boundary::{
@@ -127,7 +128,7 @@ fn repeat(messages: usize, mut work: impl FnMut() -> (u32, u16)) -> (Duration, u
 /// A function that repeats a row's work on one side. The kind of work is chosen
 /// before the loop, and in it the side's functions are called directly.
 macro_rules! side {
-    ($run:ident, $side:ident, $who:path, $who_all:path) => {
+    ($run:ident, $side:ident, $who:path, $who_all:path, $control:path) => {
         fn $run(row: &Row, messages: usize) -> (Duration, u64) {
             let mut lent = Lent::new(row);
             let Lent {
@@ -206,13 +207,30 @@ macro_rules! side {
                     let told = $who_all(&row.ram, &row.settings, records);
                     (0, told as u16)
                 }),
+                Work::Control(budget, records) => repeat(messages, || {
+                    let ran = $control(&row.ram, records, 0x0400, 0, *budget);
+                    let ran = ran.expect("the row is not refused");
+                    (ran.steps as u32, ran.machine.flags.into())
+                }),
             }
         }
     };
 }
 
-side!(run_plain, plain, terminal::who::who, plain_who_all);
-side!(run_proved, proved, engine::who::who, proved_who_all);
+side!(
+    run_plain,
+    plain,
+    terminal::who::who,
+    plain_who_all,
+    controller::start
+);
+side!(
+    run_proved,
+    proved,
+    engine::who::who,
+    proved_who_all,
+    engine::control::start
+);
 
 /// What a side is lent in a run.
 struct Lent {

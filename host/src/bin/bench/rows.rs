@@ -33,6 +33,8 @@ pub enum Work {
     Who(u16, Vec<u8>),
     /// The same for every address.
     WhoAll(Vec<u8>),
+    /// The controller's list at 0400, for so many steps, over such records.
+    Control(u64, Vec<u8>),
 }
 
 /// Words of RAM that are not zero.
@@ -55,7 +57,44 @@ pub fn rows() -> Vec<Row> {
     rows.extend(long_records());
     rows.extend(labels());
     rows.extend(origins());
+    rows.extend(controller());
     rows
+}
+
+// Flags, conditions, a call and a return, again and again.
+const LOOP: &Image = &[
+    (0x0400, 0xB14F), // FLG toggle 0
+    (0x0401, 0x0101),
+    (0x0402, 0x8D4F), // CAL 0408
+    (0x0403, 0x0408),
+    (0x0404, 0x0940), // JMP 0400 if GP0
+    (0x0405, 0x0400),
+    (0x0406, 0x094F), // JMP 0400
+    (0x0407, 0x0400),
+    (0x0408, 0x114F), // RTN
+];
+// A message, and back to it.
+const MESSAGES: &Image = &[
+    (0x0400, 0x054F), // XEQ 0600
+    (0x0401, 0x0600),
+    (0x0402, 0x094F), // JMP 0400
+    (0x0403, 0x0400),
+];
+
+fn controller() -> [Row; 2] {
+    let records = record_bytes(0x2864, 4).repeat(100);
+    [
+        row(
+            "1000 steps of a list without messages",
+            LOOP,
+            Work::Control(1000, Vec::new()),
+        ),
+        row(
+            "a list that executes 100 messages",
+            MESSAGES,
+            Work::Control(1000, records),
+        ),
+    ]
 }
 
 fn receiving() -> [Row; 9] {

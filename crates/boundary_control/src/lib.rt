@@ -1,0 +1,3 @@
+// The bus controller, for callers in C and Rust.
+pub mod numbers;
+pub mod runs;

@@ -1,0 +1,7 @@
+pub mod Runs
+pub mod Steps
+pub mod Started
+pub mod Kept
+pub mod Ends
+pub mod Used
+pub mod Determined

@@ -1,0 +1,5 @@
+pub mod Number
+pub mod OpCode
+pub mod Condition
+pub mod Flags
+pub mod Outcome
