@@ -65,12 +65,12 @@ fn the_commands_print_what_is_shown() {
             commands += 1;
         }
     }
-    assert_eq!(commands, 14);
+    assert_eq!(commands, 15);
 }
 
 #[test]
 fn the_samples_are_those_under_examples() {
-    for sample in ["pointer", "owners", "bad", "transfers", "trainer"] {
+    for sample in ["pointer", "owners", "bad", "transfers", "trainer", "long/outlasts"] {
         let text = read(&format!("examples/{sample}.txt"));
         assert!(blocks(&guide()).contains(&text), "{sample}");
     }
