@@ -86,13 +86,15 @@ fn small_or_any(random: &mut Random) -> u16 {
     }
 }
 
-/// The long record as it is, with each of its bytes damaged, and in every
-/// length.
+/// The long record as it is, with each of its bytes damaged, whole and cut to 80
+/// bytes, and in every length.
 fn given(random: &mut Random, whole: &[u8; LONG_BYTES]) -> Vec<Vec<u8>> {
     let mut given = vec![whole.to_vec()];
     for place in 0..LONG_BYTES {
         let mut damaged = whole.to_vec();
         damaged[place] ^= 1 << random.below(8);
+        // The old part alone too, damaged as it is.
+        given.push(damaged[..RECORD_BYTES].to_vec());
         given.push(damaged);
     }
     let mut zeroed = whole.to_vec();

@@ -65,7 +65,7 @@ fn the_commands_print_what_is_shown() {
             commands += 1;
         }
     }
-    assert_eq!(commands, 18);
+    assert_eq!(commands, 26);
 }
 
 #[test]
@@ -78,6 +78,7 @@ fn the_samples_are_those_under_examples() {
         "transfers",
         "trainer",
     ] {
+    for sample in ["pointer", "owners", "bad", "transfers", "trainer", "long/outlasts"] {
         let text = read(&format!("examples/{sample}.txt"));
         assert!(blocks(&guide()).contains(&text), "{sample}");
     }
