@@ -77,8 +77,8 @@ fn the_samples_are_those_under_examples() {
         "saturday",
         "transfers",
         "trainer",
+        "long/outlasts",
     ] {
-    for sample in ["pointer", "owners", "bad", "transfers", "trainer", "long/outlasts"] {
         let text = read(&format!("examples/{sample}.txt"));
         assert!(blocks(&guide()).contains(&text), "{sample}");
     }
