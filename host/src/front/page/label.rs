@@ -33,12 +33,11 @@ fn heading(board: &Board, cell: u16, sharing: &CellSharing) -> (&'static str, &'
     match (sharing.warns(), of_others) {
         (true, true) => (
             "label",
-            "<b>Shared words.</b> Cells of others can write in this window. It is shared with",
+            "<b>Shared words.</b> Cells of others can write in this window",
         ),
         (true, false) => (
             "label",
-            "<b>Shared words.</b> A used cell of the same subaddress or owner can write in this \
-             window. It is shared with",
+            "<b>Shared words.</b> A used cell of the same subaddress or owner can write in this window",
         ),
         (false, _) => (
             "quiet",

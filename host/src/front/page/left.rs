@@ -51,7 +51,7 @@ pub fn tell_left(left: &Left, most: usize) -> String {
     )
 }
 
-/// `words for receive 19 (Anna) stand at 0480-0483`, for each cell of others that has
+/// `words for receive 19 (Anna) at 0480-0483`, for each cell of others that has
 /// written into the window.
 pub fn tell_others(board: &Board, cell: u16, most: usize) -> Vec<String> {
     let mut others: Vec<(u16, Vec<usize>)> = Vec::new();
@@ -69,7 +69,7 @@ pub fn tell_others(board: &Board, cell: u16, most: usize) -> Vec<String> {
     let tell = |(other, at): &(u16, Vec<usize>)| {
         let name = html::cell(&board.owners, *other);
         format!(
-            "<b class=\"lost\">words for {name}</b> stand at {}",
+            "<b class=\"lost\">words for {name}</b> at {}",
             places(at, most)
         )
     };

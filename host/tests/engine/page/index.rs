@@ -65,7 +65,7 @@ fn others_words(played: &Played, number: u16) -> Vec<String> {
     }
     let line = |(other, at): &(u16, Vec<usize>)| {
         let (name, at) = (cell(played, *other), html_runs(at, RUNS));
-        format!("<b class=\"lost\">words for {name}</b> stand at {at}")
+        format!("<b class=\"lost\">words for {name}</b> at {at}")
     };
     others.iter().map(line).collect()
 }

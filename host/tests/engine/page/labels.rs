@@ -109,10 +109,6 @@ pub fn check_card(played: &Played, number: u16, article: &str, seen: &mut Seen) 
             &format!("{class} {must}"),
         )?;
     }
-    let of_others = |&it: &u16| warns(played, number, it) && !played.same_owner(number, it);
-    let must = named.iter().any(of_others).to_string();
-    let told = article.contains("Cells of others can write in this window");
-    tells(&what, &told.to_string(), &must)?;
     let mut must = Vec::new();
     for &other in &named {
         let words = range(&common(played, number, other));
