@@ -48,7 +48,7 @@ pub struct Command {
 const FORMS: [&str; 2] = ["--text", "--bytes"];
 const LONG: &str = "--long";
 
-pub const COMMANDS: [Command; 8] = [
+pub const COMMANDS: [Command; 9] = [
     Command {
         name: "run",
         help: include_str!("front/help/run.txt"),

@@ -87,6 +87,9 @@ impl Side for Proved {
             MessageRef::Bytes(bytes) => {
                 boundary::message(ram, reply, &settings, remembered, bytes, answer)
             }
+            MessageRef::Long(bytes) => {
+                boundary::message_long(ram, reply, &settings, remembered, bytes, answer)
+            }
             MessageRef::Value(record) => {
                 let value = value_words(record);
                 boundary::message_value(ram, reply, &settings, remembered, &value, answer)
