@@ -24,6 +24,10 @@ unfoldable pub isRead : Settings → ℕ → Bool
 isRead s number =
     (leb 1 (number % 32) && leb (number % 32) 30) && (ltb number 64 || (hasBroadcastCells s && ltb number 96))
 
+-- no cell from this number on is read
+abbrev pub readEnd : Settings → ℕ
+readEnd s = cond (hasBroadcastCells s) 96 64
+
 -- the cell with this number
 unfoldable pub cellNumbered : List ℕ → Settings → ℕ → Cell
 cellNumbered ram s number = cellAt ram (s .area) (kindNumbered number) (number % 32)

@@ -3,10 +3,10 @@ use crate::bench::Bench;
 use crate::lines::Numbers;
 use crate::ram::front;
 use crate::show::show;
-use origin::origin::Who;
-use replay::question::go_on;
 use who::standing::Standing;
 use who::values::values_of;
+use who_origin::origin::Who;
+use who_replay::question::go_on;
 
 // The answer before the part: a refusal, or as in the image.
 fn answer_before(number: u16) -> Who {

@@ -2,9 +2,9 @@
 use crate::lines::Numbers;
 use crate::ram::front;
 use crate::show::show;
+use exchange_asked::neighbours::may_exchange;
 use memory::ram::word_at;
 use message::serve::message_from_value;
-use neighbours::neighbours::may_exchange;
 use records::value::Record;
 use words::remembered::nothing_remembered;
 use words::settings::Settings;

@@ -13,7 +13,7 @@ use Rattle.cells.specs.declared.cell.Cell.{Cell}
 use Rattle.cells.specs.declared.cell.Lookup.{Lookup}
 use Rattle.windows.specs.declared.window.Window.{Window}
 use Rattle.memory.specs.Map.{lookupPlace, controlPlace}
-use Rattle.memory.specs.Kind.{cellNumber}
+use Rattle.memory.specs.Kind.{cellNumber, ableToWrite}
 use Rattle.windows.specs.Window.{runFrom, aligned, windowsMeet, meetsFixed, fitsBelow}
 
 -- "transmit 14 end-of-message interrupt, 13 circular interrupt, 12-10 size; receive 9, 8, 7-5; broadcast 4, 3, 2-0":
@@ -33,12 +33,6 @@ controlShift Broadcast = 0
 abbrev pub sizeOf : ℕ → ℕ
 sizeOf m = 64 * 2 ^ m
 
--- "bit 15 double buffer for receive and broadcast"
-abbrev pub doublesKind : Kind → Bool
-doublesKind Receive = true
-doublesKind Transmit = false
-doublesKind Broadcast = true
-
 -- "Size field 0, no double: single." "Size field 0, bit 15 set, not transmit: double." "Size field m from 1 to 7 (bit
 -- 15 ignored): circular"
 unfoldable pub pickScheme : ℕ → Bool → Scheme
@@ -51,7 +45,7 @@ lookupAt ram area kind sub =
     record {
       pointer = getD ram (lookupPlace area (cellNumber kind sub)) 0;
       part = controlPart (getD ram (controlPlace area sub) 0) kind;
-      double = eqb (getD ram (controlPlace area sub) 0 / 32768) 1 && doublesKind kind;
+      double = eqb (getD ram (controlPlace area sub) 0 / 32768) 1 && ableToWrite kind;
     }
 
 -- the cell that this describes

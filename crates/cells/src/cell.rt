@@ -1,8 +1,9 @@
 // A cell's description, read from its lookup word and its control word; its window; whether it is sound.
 ghost use mathlib.Core.Path.{_≡_};
 ghost use Prim.Native.Nat.{_<_};
-ghost use Rattle.cells.specs.Cell.{controlShift, controlPart, sizeOf, doublesKind, pickScheme, lookupAt, cellFrom, cellAt, windowOf, doubleFits, soundWithin, soundCell};
+ghost use Rattle.cells.specs.Cell.{controlShift, controlPart, sizeOf, pickScheme, lookupAt, cellFrom, cellAt, windowOf, doubleFits, soundWithin, soundCell};
 use memory::kind::Kind;
+use memory::kind::able_to_write;
 use memory::kind::cell_number;
 use memory::map::control_place;
 use memory::map::lookup_table;
@@ -69,16 +70,6 @@ fn size_of(m: u16) -> u16
     64 << m
 }
 
-fn doubles_kind(kind: Kind) -> bool
-    ensures { λ r. ⌜ r ≡ doublesKind kind ⌝ }
-{
-    match kind {
-        Kind::Receive => true,
-        Kind::Transmit => false,
-        Kind::Broadcast => true,
-    }
-}
-
 fn pick_scheme(m: u16, double: bool) -> Scheme
     requires { ⌜ m < 8 ⌝ }
     ensures { λ r. ⌜ r ≡ pickScheme m double ⌝ }
@@ -101,7 +92,7 @@ fn lookup_at(ram: &[u16], area: Area, kind: Kind, subaddress: u16) -> Lookup
     Lookup {
         pointer,
         part: control_part(control, kind),
-        double: both(control / 32768 == 1, doubles_kind(kind)),
+        double: both(control / 32768 == 1, able_to_write(kind)),
     }
 }
 

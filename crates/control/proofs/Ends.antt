@@ -8,7 +8,7 @@ use lib.ListN.{getD}
 use lib.Dec.{leb, eqb}
 use borrow.Author.Tests.{eq-eqb, ne-eqb}
 use Rattle.words.proofs.Basics.{yes-or-no, eq-or-ne}
-use Rattle.view.specs.View.{takenAt}
+use Rattle.trace_view.specs.View.{takenAt}
 use Rattle.control_words.specs.declared.opcode.Operation.{Operation}
 use Rattle.control_words.specs.declared.opcode.Operation.the-variants.{Execute, Jump, Call, Return, Halt, Flag, Unknown}
 use Rattle.control_words.specs.OpCode.{operationOf}

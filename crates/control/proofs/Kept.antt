@@ -10,7 +10,7 @@ use lib.Dec.{leb, eqb}
 use borrow.Author.Tests.{leb-true, leb-false, eqb-true, eqb-false}
 use Rattle.words.specs.Bits.{bitOf}
 use Rattle.words.proofs.Basics.{yes-or-no}
-use Rattle.view.specs.View.{takenAt}
+use Rattle.trace_view.specs.View.{takenAt}
 use Rattle.control_words.specs.declared.condition.Outcome.{Outcome}
 use Rattle.control_words.specs.declared.opcode.Operation.{Operation}
 use Rattle.control_words.specs.declared.opcode.Operation.the-variants.{Execute, Jump, Call, Return, Halt, Flag, Unknown}

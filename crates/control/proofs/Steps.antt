@@ -9,8 +9,8 @@ use lib.ListN.{length, getD}
 use lib.Dec.{leb, eqb}
 use borrow.Author.Tests.{le-leb, lt-leb, leb-true, leb-false, eq-eqb, ne-eqb}
 use Rattle.words.proofs.Basics.{lt-or-ge}
-use Rattle.view.specs.declared.view.Taken.{Taken}
-use Rattle.view.specs.View.{takenAt}
+use Rattle.trace_view.specs.declared.view.Taken.{Taken}
+use Rattle.trace_view.specs.View.{takenAt}
 use Rattle.control_words.specs.declared.condition.Outcome.{Outcome}
 use Rattle.control_words.specs.declared.opcode.Operation.{Operation}
 use Rattle.control_words.specs.declared.opcode.Operation.the-variants.{Execute, Jump, Call, Return, Halt, Flag, Unknown}

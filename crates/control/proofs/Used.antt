@@ -9,7 +9,7 @@ use lib.ListN.{length, getD}
 use lib.Dec.{leb, eqb}
 use Rattle.words.specs.Bits.{bitOf}
 use Rattle.words.proofs.Basics.{yes-or-no}
-use Rattle.view.specs.View.{hasRecord, noneAt, takenAt}
+use Rattle.trace_view.specs.View.{hasRecord, noneAt, takenAt}
 use Rattle.control_words.specs.declared.opcode.Operation.{Operation}
 use Rattle.control_words.specs.declared.opcode.Operation.the-variants.{Execute, Jump, Call, Return, Halt, Flag, Unknown}
 use Rattle.control_words.specs.OpCode.{opCodeNumber, operationOf}

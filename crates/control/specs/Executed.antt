@@ -5,7 +5,7 @@ use mathlib.Core.List.{List}
 use lib.ListN.{getD}
 use lib.Dec.{eqb}
 use Rattle.words.specs.Bits.{bitOf}
-use Rattle.view.specs.View.{takenAt}
+use Rattle.trace_view.specs.View.{takenAt}
 use Rattle.control_words.specs.declared.opcode.Operation.{Operation}
 use Rattle.control_words.specs.OpCode.{opCodeNumber, operationOf}
 use Rattle.control_words.specs.Condition.{isDue}

@@ -4,8 +4,8 @@ use mathlib.Core.Bool.{Bool, cond, _&&_}
 use mathlib.Core.List.{List}
 use lib.ListN.{length, getD}
 use lib.Dec.{leb, eqb}
-use Rattle.view.specs.declared.view.Taken.{Taken}
-use Rattle.view.specs.View.{takenAt}
+use Rattle.trace_view.specs.declared.view.Taken.{Taken}
+use Rattle.trace_view.specs.View.{takenAt}
 use Rattle.control_words.specs.declared.opcode.Operation.{Operation}
 use Rattle.control_words.specs.declared.opcode.Operation.the-variants.{Execute, Jump, Call, Return, Halt, Flag, Unknown}
 use Rattle.control_words.specs.OpCode.{operationOf}

@@ -17,8 +17,8 @@ use control_words::opcode::Operation;
 use control_words::opcode::operation_of;
 use control_words::outcome::outcome_shown;
 use memory::ram::word_at;
-use view::view::Taken;
-use view::view::take_at;
+use trace_view::view::Taken;
+use trace_view::view::take_at;
 use words::choose::both;
 
 // Whether two words stand at a place, which may lie beyond the end.

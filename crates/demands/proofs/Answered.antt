@@ -39,18 +39,18 @@ use Rattle.message.specs.Message.{answerOf, step}
 use Rattle.message.proofs.serve
 use Rattle.message.proofs.Refusals.{number-told, refused-answer, refused-state}
 use Rattle.demands.specs.Calls.{Message, Exported}
-use Rattle.view.specs.declared.view.Taken.{Taken}
-use Rattle.view.specs.View.{noneAt, takenAt}
-use Rattle.view.proofs.Views.{taken-none, taken-some}
+use Rattle.trace_view.specs.declared.view.Taken.{Taken}
+use Rattle.trace_view.specs.View.{noneAt, takenAt}
+use Rattle.trace_view.proofs.Views.{taken-none, taken-some}
 use Rattle.message.proofs.FromBytes.{record-number}
-use Rattle.lent.specs.Over.{over}
-use Rattle.lent_areas.specs.Check.{checkWord}
-use Rattle.lent_messages.specs.Values.{valueWords}
-use Rattle.lent_messages.specs.Call.{Lent, lentOf, stateIn, callNumber, lentAfter}
-use Rattle.lent_areas.specs.Labels.{listingWords, countWords}
-use Rattle.lent_messages.proofs.Refused.{message-refused}
-use Rattle.boundary.proofs.Refused.{read-refused, write-refused, label-cell-refused, counts-refused, unsound-refused, pairs-refused}
-use Rattle.lent_areas.proofs.Halves.{upper-half, lower-half}
+use Rattle.c_words.specs.Over.{over}
+use Rattle.c_words_areas.specs.Check.{checkWord}
+use Rattle.c_words_messages.specs.Values.{valueWords}
+use Rattle.c_words_messages.specs.Call.{Lent, lentOf, stateIn, callNumber, lentAfter}
+use Rattle.c_words_areas.specs.Labels.{listingWords, countWords}
+use Rattle.c_words_messages.proofs.Refused.{message-refused}
+use Rattle.c_questions.proofs.Refused.{read-refused, write-refused, label-cell-refused, counts-refused, unsound-refused, pairs-refused}
+use Rattle.c_words_areas.proofs.Halves.{upper-half, lower-half}
 use Rattle.demands.specs.Answered.{rising, Answered}
 use Rattle.demands.specs.Meets.{MessageAnswered}
 use Rattle.demands.specs.First.{writerTests, NumberAnswered, ExportedAnswered, TakeAnswered, CheckAnswered, ReadAnswered, WriteAnswered}

@@ -13,23 +13,23 @@ use Rattle.words.specs.Refusal.{Test, _when_, firstOf}
 use Rattle.words.proofs.Basics.{yes-or-no, eq-or-ne}
 use Rattle.words.proofs.Refusals.{numbered}
 use Rattle.message.specs.Heard.{Heard}
-use Rattle.origin.specs.declared.origin.Who.{Who}
-use Rattle.origin.specs.declared.origin.Who.the-variants.{Refused}
+use Rattle.who_origin.specs.declared.origin.Who.{Who}
+use Rattle.who_origin.specs.declared.origin.Who.the-variants.{Refused}
 use Rattle.who.specs.declared.standing.Standing.{Standing}
 use Rattle.who.specs.Tests.{whoTests, whoRefusal}
 use Rattle.who.specs.Values.{valuesOf}
 use Rattle.who.specs.Replay.{Replay, replayOf, refusedAt, goneOn, asked}
 use Rattle.who.proofs.Gone.{refusal-told, still-told, handed-back, part-refused, part-replayed, refused-number}
 use Rattle.who.proofs.Answers.{who-put-this-here}
-use Rattle.tables.specs.declared.table.Filling.{Filling}
-use Rattle.tables.specs.Mark.{entryOf}
-use Rattle.tables.specs.Tests.{fillTests, fillRefusal, entryTests, entryRefusal}
-use Rattle.tables.specs.Table.{Tables, tablesOf, entryAt, refusalOf, filledWith}
-use Rattle.tables.proofs.Parts.{filled-refused}
-use Rattle.replay.specs.declared.fill.Filled.{Filled}
-use Rattle.lent.specs.Over.{over}
-use Rattle.boundary_origins.specs.Origins.{partWords, LentTables, tablesIn, tablesAfter}
-use Rattle.boundary_origins.proofs.NotTold.{fill-refused, not-told, who-refused}
+use Rattle.who_tables.specs.declared.table.Filling.{Filling}
+use Rattle.who_tables.specs.Mark.{entryOf}
+use Rattle.who_tables.specs.Tests.{fillTests, fillRefusal, entryTests, entryRefusal}
+use Rattle.who_tables.specs.Table.{Tables, tablesOf, entryAt, refusalOf, filledWith}
+use Rattle.who_tables.proofs.Parts.{filled-refused}
+use Rattle.who_replay.specs.declared.fill.Filled.{Filled}
+use Rattle.c_words.specs.Over.{over}
+use Rattle.c_who.specs.Origins.{partWords, LentTables, tablesIn, tablesAfter}
+use Rattle.c_who.proofs.NotTold.{fill-refused, not-told, who-refused}
 use Rattle.demands.specs.Answered.{rising, Answered}
 use Rattle.demands.specs.First.{AskAnswered, GoOnAnswered, ToldAnswered}
 use Rattle.demands.proofs.Answered.{answered}

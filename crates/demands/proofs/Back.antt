@@ -12,8 +12,8 @@ use Rattle.layout.specs.Layout.{Bytes, valueIn, readRecord}
 use Rattle.layout.specs.Writing.{bytesOf, writeRecord}
 use Rattle.records.specs.Value.{Typed}
 use Rattle.words.proofs.Basics.{yes-or-no}
-use Rattle.view.specs.declared.view.Taken.{Taken}
-use Rattle.view.specs.View.{hasRecord, noneAt, takenAt}
+use Rattle.trace_view.specs.declared.view.Taken.{Taken}
+use Rattle.trace_view.specs.View.{hasRecord, noneAt, takenAt}
 use Rattle.layout.proofs.Cases.{write-good}
 use Rattle.layout.proofs.Inverse.{read-after-write, write-after-read, reader-takes, writer-takes}
 

@@ -3,7 +3,7 @@ use mathlib.Core.Path.{_≡_, refl, sym, _∙_}
 use mathlib.Core.Logic.{inl, inr}
 use denote.Ref.{now}
 use Rattle.words.specs.declared.remembered.Remembered.{Remembered}
-use Rattle.decide.specs.declared.plan.Plan.{Plan}
+use Rattle.plan.specs.declared.plan.Plan.{Plan}
 use Rattle.message.specs.declared.perform.Performed.the-variants.{Done}
 use Rattle.message.specs.Heard.{heardValue, heardBytes}
 use Rattle.message.specs.Message.{planFor, rememberedWith}

@@ -15,9 +15,9 @@ use Rattle.control.specs.Run.{runFor}
 use Rattle.control.specs.Start.{notRun, startTests, startRefusal, startedAt, goOnTests, goOnRefusal, goneOn}
 use Rattle.control.proofs.start
 use Rattle.control.proofs.Ends.{run-not-refused, started-number, started-refused, gone-number, gone-refused}
-use Rattle.lent.specs.Over.{over}
-use Rattle.boundary_control.specs.Numbers.{machineFrom, machineLeft, ranNumbers}
-use Rattle.boundary_control.proofs.runs
+use Rattle.c_words.specs.Over.{over}
+use Rattle.c_control.specs.Numbers.{machineFrom, machineLeft, ranNumbers}
+use Rattle.c_control.proofs.runs
 use Rattle.demands.specs.Answered.{rising}
 use Rattle.demands.specs.Control.{RunAnswered, ToldAnswered, Demand}
 use Rattle.demands.proofs.Answered.{answered, by-number}

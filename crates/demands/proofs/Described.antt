@@ -8,12 +8,12 @@ use borrow.Author.Tests.{eq-eqb, ne-eqb}
 use Rattle.words.specs.declared.settings.Settings.{Settings}
 use Rattle.words.proofs.Basics.{eq-or-ne}
 use Rattle.area.specs.Area.{cellNumbered}
-use Rattle.described.specs.declared.cell.CellDescription.{CellDescription}
-use Rattle.described.specs.declared.stack.StackDescription.{StackDescription}
-use Rattle.described.specs.Described.{givenTests, givenRefusal, describedCell, noCell, cellDescription, describedStack, noStack, stackDescription}
-use Rattle.lent.specs.Over.{over}
-use Rattle.lent_areas.specs.Descriptions.{cellWords, stackWords}
-use Rattle.boundary.proofs.NotDescribed.{describe-cell-refused, describe-stack-refused}
+use Rattle.soundness.specs.declared.cell.CellDescription.{CellDescription}
+use Rattle.soundness.specs.declared.stack.StackDescription.{StackDescription}
+use Rattle.soundness.specs.Described.{givenTests, givenRefusal, describedCell, noCell, cellDescription, describedStack, noStack, stackDescription}
+use Rattle.c_words.specs.Over.{over}
+use Rattle.c_words_areas.specs.Descriptions.{cellWords, stackWords}
+use Rattle.c_questions.proofs.NotDescribed.{describe-cell-refused, describe-stack-refused}
 use Rattle.demands.specs.Answered.{Answered}
 use Rattle.demands.proofs.Answered.{answered, by-number}
 

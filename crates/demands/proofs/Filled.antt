@@ -13,12 +13,12 @@ use Rattle.words.specs.Settings.{settingsRefused}
 use Rattle.words.proofs.Basics.{eq-or-ne}
 use Rattle.message.specs.Heard.{Heard}
 use Rattle.who.specs.Replay.{heardIn, asked}
-use Rattle.tables.specs.Table.{Tables, entryAt, refusalOf, filledWith, blankTables}
-use Rattle.tables.proofs.Parts.{filled-refused, filled-parts, filled-none}
-use Rattle.tables.proofs.Tables.{every-address}
-use Rattle.lent.specs.Setup.{settingsFrom}
-use Rattle.boundary_origins.specs.Origins.{LentTables, tablesIn}
-use Rattle.boundary_origins.proofs.GoOn.{Room, after-again, still-room}
+use Rattle.who_tables.specs.Table.{Tables, entryAt, refusalOf, filledWith, blankTables}
+use Rattle.who_tables.proofs.Parts.{filled-refused, filled-parts, filled-none}
+use Rattle.who_tables.proofs.Tables.{every-address}
+use Rattle.c_words.specs.Setup.{settingsFrom}
+use Rattle.c_who.specs.Origins.{LentTables, tablesIn}
+use Rattle.c_who.proofs.GoOn.{Room, after-again, still-room}
 use Rattle.demands.specs.Filled.{Parts, recordsTaken, Fill, filledPart, EntryAt, Ask, ExportedFill, exportedPart, ExportedEntry, ExportedAsk, SameQuestion, SameExportedQuestion}
 
 -- ---- parts one after the other

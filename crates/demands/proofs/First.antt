@@ -14,17 +14,17 @@ use Rattle.layout_long.proofs.writer as long-writer
 use Rattle.layout_long.proofs.round_trip as long-trips
 use Rattle.layout_long.proofs.conversion
 use Rattle.message.proofs.long
-use Rattle.lent_long.specs.LongValues.{longFrom}
-use Rattle.boundary_long.proofs.calls as long-calls
-use Rattle.boundary_long.proofs.from_long
+use Rattle.c_words_long.specs.LongValues.{longFrom}
+use Rattle.c_long.proofs.calls as long-calls
+use Rattle.c_long.proofs.from_long
 use Rattle.demands.specs.LongCalls.{fromLong, performLong, exportedLong}
 use Rattle.demands.proofs.Long.{perform-long, read-old-answered, long-read-back-answered, long-write-back-answered, read-long-answered, write-long-answered, longer-answered, shorter-answered, exported-read-long-answered, exported-write-long-answered, exported-longer-answered, exported-shorter-answered}
 use Rattle.area.proofs.area
 use Rattle.label.proofs.one
 use Rattle.label.proofs.whole
-use Rattle.described.proofs.cell as described-cell
-use Rattle.described.proofs.stack as described-stack
-use Rattle.boundary.proofs.descriptions
+use Rattle.soundness.proofs.cell as described-cell
+use Rattle.soundness.proofs.stack as described-stack
+use Rattle.c_questions.proofs.descriptions
 use Rattle.demands.proofs.Described.{cell-described, stack-described, exported-cell-described, exported-stack-described}
 use Rattle.message.proofs.heard
 use Rattle.message.proofs.serve
@@ -32,19 +32,19 @@ use Rattle.trace.proofs.walk
 use Rattle.who.specs.Replay.{heardIn}
 use Rattle.who.specs.Tests.{whoTests, whoRefusal}
 use Rattle.who.proofs.tests
-use Rattle.tables.specs.Tests.{fillTests, fillRefusal}
-use Rattle.tables.proofs.table
-use Rattle.tables.proofs.tests as table-tests
-use Rattle.replay.proofs.question
-use Rattle.replay.proofs.fill
-use Rattle.view.proofs.view
-use Rattle.lent.specs.Setup.{settingsFrom}
-use Rattle.lent_messages.specs.Values.{valueFrom}
-use Rattle.boundary_origins.specs.Origins.{lentTablesOf}
-use Rattle.boundary_bytes.proofs.from_bytes
-use Rattle.boundary_values.proofs.from_value
-use Rattle.boundary.proofs.calls
-use Rattle.boundary_origins.proofs.origins
+use Rattle.who_tables.specs.Tests.{fillTests, fillRefusal}
+use Rattle.who_tables.proofs.table
+use Rattle.who_tables.proofs.tests as table-tests
+use Rattle.who_replay.proofs.question
+use Rattle.who_replay.proofs.fill
+use Rattle.trace_view.proofs.view
+use Rattle.c_words.specs.Setup.{settingsFrom}
+use Rattle.c_words_messages.specs.Values.{valueFrom}
+use Rattle.c_who.specs.Origins.{lentTablesOf}
+use Rattle.c_message_bytes.proofs.from_bytes
+use Rattle.c_message_values.proofs.from_value
+use Rattle.c_questions.proofs.calls
+use Rattle.c_who.proofs.origins
 use Rattle.demands.specs.Calls.{fromBytes, fromValue, performBytes, performValue, exportedBytes, exportedValue}
 use Rattle.demands.specs.First.{Demand}
 use Rattle.demands.proofs.Answered.{message-answered, check-answered, read-answered, write-answered, read-back-answered, write-back-answered, number-answered, sharers-found, cell-labelled, area-labelled, take-answered, exported-answered, exported-check, exported-read-answered, exported-write-answered, exported-cell-labelled, exported-area-labelled}

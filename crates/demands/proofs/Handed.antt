@@ -8,9 +8,9 @@ use lib.Seq.{sets, length-sets}
 use Rattle.words.specs.declared.settings.Settings.{Settings}
 use Rattle.words.specs.declared.remembered.Remembered.{Remembered}
 use Rattle.memory.specs.State.{State}
-use Rattle.lent.specs.Over.{over}
-use Rattle.lent.specs.Setup.{rememberedFrom, rememberedWords}
-use Rattle.lent_messages.specs.Call.{Lent, stateIn, handedBack}
+use Rattle.c_words.specs.Over.{over}
+use Rattle.c_words.specs.Setup.{rememberedFrom, rememberedWords}
+use Rattle.c_words_messages.specs.Call.{Lent, stateIn, handedBack}
 use Rattle.demands.specs.Calls.{Message, Exported}
 use Rattle.demands.specs.Meets.{Meets}
 use Rattle.demands.specs.Walks.{Handed, Each, heardOf}

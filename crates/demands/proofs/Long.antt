@@ -10,8 +10,8 @@ use Rattle.words.specs.declared.remembered.Remembered.{Remembered}
 use Rattle.words.specs.Refusal.{Test}
 use Rattle.records.specs.Value.{zeroValue}
 use Rattle.cells.specs.Stack.{stackPointer}
-use Rattle.decide.specs.declared.plan.Plan.{Plan}
-use Rattle.carry.specs.Writes.{descriptorOf}
+use Rattle.plan.specs.declared.plan.Plan.{Plan}
+use Rattle.writes.specs.Writes.{descriptorOf}
 use Rattle.layout.specs.declared.reader.Reading.{Reading}
 use Rattle.layout.specs.declared.writer.Written.{Written}
 use Rattle.layout.specs.Layout.{wordAt, valueIn, readerRefusal, notRead}
@@ -31,9 +31,9 @@ use Rattle.message.specs.Performed.{performedOf, answerIn, rememberedIn}
 use Rattle.message.proofs.Performing.{told, performed-done}
 use Rattle.message.specs.Message.{answerOf, step}
 use Rattle.message.proofs.FromLong.{heard-as-old}
-use Rattle.lent.specs.Over.{over}
-use Rattle.lent_messages.specs.Values.{valueWords}
-use Rattle.lent_long.specs.LongValues.{longWords}
+use Rattle.c_words.specs.Over.{over}
+use Rattle.c_words_messages.specs.Values.{valueWords}
+use Rattle.c_words_long.specs.LongValues.{longWords}
 use Rattle.demands.specs.Calls.{Message}
 use Rattle.demands.specs.Answered.{Answered}
 use Rattle.demands.specs.Meets.{planned, deed, Worked}

@@ -11,7 +11,7 @@ use Rattle.words.specs.declared.remembered.Remembered.{Remembered}
 use Rattle.words.proofs.Basics.{eq-or-ne}
 use Rattle.memory.specs.State.{State, stateOf}
 use Rattle.memory.proofs.Writes.{length-apply}
-use Rattle.carry.specs.Reply.{replyWrites}
+use Rattle.writes.specs.Reply.{replyWrites}
 use Rattle.message.specs.Heard.{Heard}
 use Rattle.message.specs.Tests.{refusalFor}
 use Rattle.message.specs.Message.{planFor, carriedOut, stateFor, answerOf, step}

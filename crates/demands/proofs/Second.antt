@@ -3,7 +3,7 @@ use mathlib.Core.Path.{_≡_, refl, sym, _∙_}
 use denote.Ref.{now}
 use Rattle.message.proofs.Edges.{edges}
 use Rattle.message.proofs.Refusals.{number-told}
-use Rattle.lent_messages.specs.Call.{stateIn, callNumber, lentAfter}
+use Rattle.c_words_messages.specs.Call.{stateIn, callNumber, lentAfter}
 use Rattle.demands.specs.Calls.{fromBytes, fromValue, performBytes, performValue, Exported, exportedBytes, exportedValue}
 use Rattle.demands.specs.Second.{ExportedWorked, Demand}
 use Rattle.demands.specs.LongCalls.{fromLong, performLong, exportedLong}

@@ -13,11 +13,11 @@ use Rattle.words.proofs.Basics.{yes-or-no}
 use Rattle.records.specs.declared.value.Record.{Record}
 use Rattle.faults.specs.Fault.{anyFault, faultsFor, faultsOf}
 use Rattle.windows.specs.Window.{placeOf}
-use Rattle.arrival.specs.declared.target.Target.{Target}
-use Rattle.acts.specs.Act.{wordsSent, actWith, actOf}
-use Rattle.deed.specs.Deed.{deedWith, deedOf}
-use Rattle.carry.specs.Reply.{replyWrites, replyWords}
-use Rattle.carry.proofs.Replied.{length-writes}
+use Rattle.lookup.specs.declared.target.Target.{Target}
+use Rattle.plan.specs.Act.{wordsSent, actWith, actOf}
+use Rattle.plan.specs.Deed.{deedWith, deedOf}
+use Rattle.writes.specs.Reply.{replyWrites, replyWords}
+use Rattle.writes.proofs.Replied.{length-writes}
 
 or-true : (a : Bool) → (a || true) ≡ true
 or-true true = refl

@@ -10,7 +10,7 @@ use Rattle.words.specs.declared.settings.Settings.{Settings}
 use Rattle.memory.specs.State.{State}
 use Rattle.message.specs.Heard.{Heard}
 use Rattle.message.specs.Run.{run, effects}
-use Rattle.lent_messages.specs.Call.{Lent, stateIn}
+use Rattle.c_words_messages.specs.Call.{Lent, stateIn}
 use Rattle.exchange.specs.Order.{exchangeAll}
 use Rattle.exchange.specs.Exchanged.{asked}
 use Rattle.exchange.specs.After.{keptAfter, stackAfter, rememberedAfter, repliedAll, repliedAfter}

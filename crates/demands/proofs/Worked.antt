@@ -18,15 +18,15 @@ use Rattle.memory.proofs.Writes.{length-apply}
 use Rattle.memory.proofs.Footprint.{Avoids, untouched, avoids-append, avoids-places}
 use Rattle.windows.specs.Window.{placeOf}
 use Rattle.cells.specs.Stack.{stackPointer, stackWindow}
-use Rattle.arrival.specs.Target.{targetOf}
-use Rattle.deed.specs.Deed.{deedWith, deedOf}
-use Rattle.decide.specs.declared.plan.Plan.{Plan}
-use Rattle.decide.specs.Plan.{planWith, planOf}
-use Rattle.decide.specs.Entry.{entryOf}
-use Rattle.copies.specs.Copies.{dataWrites}
-use Rattle.carry.specs.Writes.{pointerWrites, descriptorOf, entryWrites, stackPointerWrites, deedWrites, stackWrites, writesOf}
-use Rattle.carry.specs.Reply.{replyWords}
-use Rattle.carry.proofs.Replied.{reply-front, sent-few}
+use Rattle.lookup.specs.Target.{targetOf}
+use Rattle.plan.specs.Deed.{deedWith, deedOf}
+use Rattle.plan.specs.declared.plan.Plan.{Plan}
+use Rattle.plan.specs.Plan.{planWith, planOf}
+use Rattle.plan.specs.Entry.{entryOf}
+use Rattle.writes.specs.Copies.{dataWrites}
+use Rattle.writes.specs.Writes.{pointerWrites, descriptorOf, entryWrites, stackPointerWrites, deedWrites, stackWrites, writesOf}
+use Rattle.writes.specs.Reply.{replyWords}
+use Rattle.writes.proofs.Replied.{reply-front, sent-few}
 use Rattle.message.specs.declared.answer.Answer.{Answer}
 use Rattle.message.specs.Heard.{Heard}
 use Rattle.message.specs.Tests.{testsFor, refusalFor}

@@ -14,13 +14,13 @@ use Rattle.message.specs.Performed.{answerIn, rememberedIn}
 use Rattle.message.proofs.heard
 use Rattle.message.proofs.serve
 use Rattle.trace.proofs.walk
-use Rattle.view.proofs.view
-use Rattle.lent.specs.Setup.{settingsFrom}
-use Rattle.lent_messages.specs.Values.{valueFrom}
-use Rattle.lent_messages.specs.Call.{Lent, lentOf}
-use Rattle.boundary_bytes.proofs.from_bytes
-use Rattle.boundary_values.proofs.from_value
-use Rattle.boundary.proofs.calls
+use Rattle.trace_view.proofs.view
+use Rattle.c_words.specs.Setup.{settingsFrom}
+use Rattle.c_words_messages.specs.Values.{valueFrom}
+use Rattle.c_words_messages.specs.Call.{Lent, lentOf}
+use Rattle.c_message_bytes.proofs.from_bytes
+use Rattle.c_message_values.proofs.from_value
+use Rattle.c_questions.proofs.calls
 use Rattle.demands.specs.Entry.{Call}
 
 -- ---- one message

@@ -10,8 +10,8 @@ use Rattle.control.specs.declared.run.Ran.{Ran}
 use Rattle.control.specs.Machine.{refusalIn}
 use Rattle.control.specs.Start.{notRun, startTests, goOnTests}
 use Rattle.control.proofs.start
-use Rattle.lent.specs.Over.{over}
-use Rattle.boundary_control.proofs.runs
+use Rattle.c_words.specs.Over.{over}
+use Rattle.c_control.proofs.runs
 use Rattle.demands.specs.Entry.{Entry}
 use Rattle.demands.specs.Answered.{Answered}
 

@@ -6,7 +6,7 @@ use mathlib.Core.Path.{_≡_}
 use mathlib.Core.List.{List, [], _∷_, map}
 use Rattle.words.specs.declared.settings.Settings.{Settings}
 use Rattle.message.specs.Heard.{Heard}
-use Rattle.lent_messages.specs.Call.{Lent, stateIn, handedBack}
+use Rattle.c_words_messages.specs.Call.{Lent, stateIn, handedBack}
 use Rattle.demands.specs.Calls.{Message, Exported}
 use Rattle.demands.specs.Meets.{Meets}
 

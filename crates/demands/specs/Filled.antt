@@ -13,13 +13,13 @@ use Rattle.words.specs.declared.settings.Settings.{Settings}
 use Rattle.words.specs.Settings.{settingsRefused}
 use Rattle.message.specs.Heard.{Heard}
 use Rattle.who.specs.Replay.{heardIn}
-use Rattle.tables.specs.Table.{Tables, tablesOf, blankTables}
-use Rattle.tables.proofs.table
-use Rattle.replay.proofs.question
-use Rattle.replay.proofs.fill
-use Rattle.lent.specs.Setup.{settingsFrom}
-use Rattle.boundary_origins.specs.Origins.{LentTables, lentTablesOf, tablesIn}
-use Rattle.boundary_origins.proofs.origins
+use Rattle.who_tables.specs.Table.{Tables, tablesOf, blankTables}
+use Rattle.who_tables.proofs.table
+use Rattle.who_replay.proofs.question
+use Rattle.who_replay.proofs.fill
+use Rattle.c_words.specs.Setup.{settingsFrom}
+use Rattle.c_who.specs.Origins.{LentTables, lentTablesOf, tablesIn}
+use Rattle.c_who.proofs.origins
 use Rattle.demands.specs.Entry.{Call}
 
 -- ---- parts of a trace

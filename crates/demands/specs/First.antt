@@ -36,9 +36,9 @@ use Rattle.layout_long.proofs.writer as long-writer
 use Rattle.layout_long.proofs.round_trip as long-trips
 use Rattle.layout_long.proofs.conversion
 use Rattle.message.proofs.long
-use Rattle.lent_long.specs.LongValues.{longFrom}
-use Rattle.boundary_long.proofs.calls as long-calls
-use Rattle.boundary_long.proofs.from_long
+use Rattle.c_words_long.specs.LongValues.{longFrom}
+use Rattle.c_long.proofs.calls as long-calls
+use Rattle.c_long.proofs.from_long
 use Rattle.demands.specs.LongCalls.{fromLong, performLong, exportedLong}
 use Rattle.area.specs.declared.area.Checked.{Checked}
 use Rattle.area.specs.Area.{LowestUnsound, groundTests, areaTests}
@@ -46,38 +46,38 @@ use Rattle.area.proofs.area
 use Rattle.label.specs.Label.{cellTests, cellAnswer, areaAnswer}
 use Rattle.label.proofs.one
 use Rattle.label.proofs.whole
-use Rattle.described.specs.Described.{givenTests, noCell, noStack}
-use Rattle.described.proofs.cell as described-cell
-use Rattle.described.proofs.stack as described-stack
-use Rattle.boundary.proofs.descriptions
+use Rattle.soundness.specs.Described.{givenTests, noCell, noStack}
+use Rattle.soundness.proofs.cell as described-cell
+use Rattle.soundness.proofs.stack as described-stack
+use Rattle.c_questions.proofs.descriptions
 use Rattle.message.specs.Heard.{heardBytes}
 use Rattle.message.specs.Tests.{testsFor, recordTests}
 use Rattle.message.specs.Answer.{refusedWith}
 use Rattle.message.proofs.heard
 use Rattle.message.proofs.serve
 use Rattle.trace.proofs.walk
-use Rattle.origin.specs.declared.origin.Who.{Who}
-use Rattle.origin.specs.declared.origin.Who.the-variants.{Refused}
+use Rattle.who_origin.specs.declared.origin.Who.{Who}
+use Rattle.who_origin.specs.declared.origin.Who.the-variants.{Refused}
 use Rattle.who.specs.declared.standing.Standing.{Standing}
 use Rattle.who.specs.Tests.{whoTests, partTests}
 use Rattle.who.specs.Values.{valuesOf}
 use Rattle.who.proofs.tests
-use Rattle.tables.specs.Tests.{fillTests, entryTests}
-use Rattle.tables.proofs.table
-use Rattle.tables.proofs.tests as table-tests
-use Rattle.replay.proofs.question
-use Rattle.replay.proofs.fill
-use Rattle.view.specs.declared.view.Taken.{Taken}
-use Rattle.view.proofs.view
-use Rattle.lent.specs.Over.{over}
-use Rattle.lent.specs.Setup.{settingsFrom}
-use Rattle.lent_messages.specs.Values.{valueFrom}
-use Rattle.lent_messages.specs.Call.{stateIn}
-use Rattle.boundary_origins.specs.Origins.{lentTablesOf}
-use Rattle.boundary_bytes.proofs.from_bytes
-use Rattle.boundary_values.proofs.from_value
-use Rattle.boundary.proofs.calls
-use Rattle.boundary_origins.proofs.origins
+use Rattle.who_tables.specs.Tests.{fillTests, entryTests}
+use Rattle.who_tables.proofs.table
+use Rattle.who_tables.proofs.tests as table-tests
+use Rattle.who_replay.proofs.question
+use Rattle.who_replay.proofs.fill
+use Rattle.trace_view.specs.declared.view.Taken.{Taken}
+use Rattle.trace_view.proofs.view
+use Rattle.c_words.specs.Over.{over}
+use Rattle.c_words.specs.Setup.{settingsFrom}
+use Rattle.c_words_messages.specs.Values.{valueFrom}
+use Rattle.c_words_messages.specs.Call.{stateIn}
+use Rattle.c_who.specs.Origins.{lentTablesOf}
+use Rattle.c_message_bytes.proofs.from_bytes
+use Rattle.c_message_values.proofs.from_value
+use Rattle.c_questions.proofs.calls
+use Rattle.c_who.proofs.origins
 use Rattle.demands.specs.Entry.{Entry}
 use Rattle.demands.specs.Calls.{fromBytes, fromValue, performBytes, performValue, walked, Exported, exportedBytes, exportedValue}
 use Rattle.demands.specs.Answered.{Answered}

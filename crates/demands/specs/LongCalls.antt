@@ -8,10 +8,10 @@ use Rattle.layout_long.proofs.writer
 use Rattle.message.specs.Heard.{heardLong}
 use Rattle.message.specs.Performed.{answerIn, rememberedIn}
 use Rattle.message.proofs.long
-use Rattle.lent.specs.Setup.{settingsFrom}
-use Rattle.lent_messages.specs.Call.{lentOf}
-use Rattle.boundary_long.proofs.calls
-use Rattle.boundary_long.proofs.from_long
+use Rattle.c_words.specs.Setup.{settingsFrom}
+use Rattle.c_words_messages.specs.Call.{lentOf}
+use Rattle.c_long.proofs.calls
+use Rattle.c_long.proofs.from_long
 use Rattle.demands.specs.Entry.{Call}
 use Rattle.demands.specs.Calls.{Message, Exported}
 

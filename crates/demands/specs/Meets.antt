@@ -13,11 +13,11 @@ use Rattle.words.specs.Refusal.{NoneHolds}
 use Rattle.memory.specs.Map.{lookupPlace, stackPointerPlace}
 use Rattle.windows.specs.Window.{placeOf}
 use Rattle.cells.specs.Stack.{stackPointer, stackWindow}
-use Rattle.deed.specs.declared.deed.Deed.{Deed}
-use Rattle.decide.specs.declared.plan.Plan.{Plan}
-use Rattle.decide.specs.Plan.{interruptWord}
-use Rattle.carry.specs.Writes.{descriptorOf}
-use Rattle.carry.specs.Reply.{replyWords}
+use Rattle.plan.specs.declared.deed.Deed.{Deed}
+use Rattle.plan.specs.declared.plan.Plan.{Plan}
+use Rattle.plan.specs.Plan.{interruptWord}
+use Rattle.writes.specs.Writes.{descriptorOf}
+use Rattle.writes.specs.Reply.{replyWords}
 use Rattle.message.specs.Tests.{testsFor}
 use Rattle.message.specs.Message.{planFor}
 use Rattle.message.specs.Answer.{refusedWith, acceptedWith}

@@ -17,13 +17,13 @@ use Rattle.layout.specs.RoundTrip.{readBack, writeBack}
 use Rattle.layout_long.specs.Long.{oldPart, endZero, longIn}
 use Rattle.layout_long.specs.WritingLong.{withZeros, longBytes}
 use Rattle.layout_long.specs.RoundTrip.{longReadBack, longWriteBack}
-use Rattle.lent_long.specs.LongValues.{longFrom, longWords}
+use Rattle.c_words_long.specs.LongValues.{longFrom, longWords}
 use Rattle.cells.specs.Stack.{stackPointer}
-use Rattle.decide.specs.declared.plan.Plan.{Plan}
+use Rattle.plan.specs.declared.plan.Plan.{Plan}
 use Rattle.message.specs.declared.perform.Performed.the-variants.{Done}
 use Rattle.message.specs.Edges.{runCase, cases, expected}
-use Rattle.lent.specs.Over.{over}
-use Rattle.lent_messages.specs.Values.{valueFrom, valueWords}
+use Rattle.c_words.specs.Over.{over}
+use Rattle.c_words_messages.specs.Values.{valueFrom, valueWords}
 use Rattle.demands.specs.Calls.{Message, FromBytes, fromBytes, FromValue, fromValue, PerformBytes, performBytes, PerformValue, performValue, Read, Write, ReadWritten, WriteRead, Take, Walk, walked, Exported, ExportedBytes, exportedBytes, ExportedValue, exportedValue, ExportedRead, ExportedWrite}
 use Rattle.demands.specs.Meets.{planned, MessageWorked}
 use Rattle.demands.specs.LongCalls.{FromLong, fromLong, PerformLong, performLong, ReadLong, WriteLong, ReadWrittenLong, WriteReadLong, Longer, Shorter, ExportedLong, exportedLong, ExportedReadLong, ExportedWriteLong, ExportedLonger, ExportedShorter}

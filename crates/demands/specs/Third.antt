@@ -17,7 +17,7 @@ use Rattle.words.specs.Bits.{bitOf}
 use Rattle.memory.specs.State.{State}
 use Rattle.cells.specs.Stack.{stackPointer, stackWindow}
 use Rattle.message.specs.Run.{Effect}
-use Rattle.lent_messages.specs.Call.{Lent, stateIn}
+use Rattle.c_words_messages.specs.Call.{Lent, stateIn}
 use Rattle.exchange.specs.Order.{exchangeAll}
 use Rattle.exchange.specs.Descriptors.{stackWord}
 use Rattle.exchange.specs.Kept.{withoutStackRollover}

@@ -12,7 +12,7 @@ use Rattle.words.proofs.Basics.{and-left, and-right}
 use Rattle.memory.specs.Kind.{kindOf}
 use Rattle.cells.specs.Stack.{stackWindow}
 use Rattle.windows.proofs.Wrap.{SameRun, same-back}
-use Rattle.arrival.specs.Target.{cellFor, targetOf}
+use Rattle.lookup.specs.Target.{cellFor, targetOf}
 use Rattle.message.specs.Heard.{Heard}
 use Rattle.memory.specs.State.{State}
 use Rattle.message.specs.Message.{step}

@@ -7,7 +7,7 @@ use lib.ListN.{length}
 use Rattle.words.specs.declared.settings.Settings.{Settings}
 use Rattle.message.specs.Heard.{Heard}
 use Rattle.message.specs.Answer.{acceptedWith}
-use Rattle.decide.specs.Plan.{planWith}
+use Rattle.plan.specs.Plan.{planWith}
 use Rattle.memory.specs.State.{State}
 use Rattle.message.specs.Message.{step}
 use Rattle.message.specs.Run.{run, Effect, effectOf, effects}

@@ -21,12 +21,12 @@ use Rattle.cells.proofs.Described.{cell-words}
 use Rattle.cells.proofs.Sound.{sound-place}
 use Rattle.memory.proofs.Numbers.{number-below}
 use Rattle.memory.proofs.Places.{lookup-between, control-between, stack-pointer-between, busy-between, illegal-between}
-use Rattle.deed.specs.declared.deed.Deed.{Deed}
-use Rattle.arrival.specs.Target.{cellFor, isIllegal, isBusy, targetOf}
-use Rattle.decide.specs.Entry.{entryOf}
-use Rattle.carry.specs.Writes.{deedWrites}
+use Rattle.plan.specs.declared.deed.Deed.{Deed}
+use Rattle.lookup.specs.Target.{cellFor, isIllegal, isBusy, targetOf}
+use Rattle.plan.specs.Entry.{entryOf}
+use Rattle.writes.specs.Writes.{deedWrites}
 use Rattle.memory.specs.Writes.{writesTo}
-use Rattle.carry.specs.Reply.{replyWrites, replyWords}
+use Rattle.writes.specs.Reply.{replyWrites, replyWords}
 use Rattle.message.specs.Heard.{Heard}
 use Rattle.memory.specs.State.{State}
 use Rattle.message.specs.Message.{step}

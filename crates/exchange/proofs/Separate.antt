@@ -22,9 +22,9 @@ use Rattle.windows.proofs.Wrap.{place-from, place-below}
 use Rattle.windows.proofs.Meets.{windows-swap, nothing-shared, Outside, in-or-out}
 use Rattle.cells.proofs.Sound.{FreeAddress, sound-address}
 use Rattle.memory.proofs.Places.{lookup-between, lookup-differs, ordinary-not-lookup, ordinary-not-stack-pointer}
-use Rattle.arrival.specs.Target.{cellFor, targetOf}
-use Rattle.carry.specs.Writes.{deedWrites}
-use Rattle.carry.specs.Reply.{replyWords}
+use Rattle.lookup.specs.Target.{cellFor, targetOf}
+use Rattle.writes.specs.Writes.{deedWrites}
+use Rattle.writes.specs.Reply.{replyWords}
 use Rattle.memory.proofs.Footprint.{Avoids}
 use Rattle.message.proofs.Sure.{Sure}
 use Rattle.message.proofs.Step.{afterMessage, deedFor, deed-window, cell-low, target-some, deed-avoids, elsewhere, tables-outside}

@@ -13,15 +13,15 @@ use Rattle.words.proofs.Basics.{eq-or-ne}
 use Rattle.memory.specs.Map.{stackPointerPlace}
 use Rattle.windows.proofs.Meets.{Outside}
 use Rattle.cells.specs.Stack.{stackPointer, stackWindow}
-use Rattle.deed.specs.declared.deed.Deed.{Deed}
-use Rattle.deed.specs.declared.deed.Signals.{Signals}
-use Rattle.decide.specs.declared.entry.Entry.{Entry}
-use Rattle.decide.specs.Entry.{entryOf}
-use Rattle.decide.specs.Plan.{interruptWord, planWith}
-use Rattle.decide.proofs.Interrupt.{interrupt-sum}
-use Rattle.carry.specs.Writes.{deedWrites, descriptorOf}
+use Rattle.plan.specs.declared.deed.Deed.{Deed}
+use Rattle.plan.specs.declared.deed.Signals.{Signals}
+use Rattle.plan.specs.declared.entry.Entry.{Entry}
+use Rattle.plan.specs.Entry.{entryOf}
+use Rattle.plan.specs.Plan.{interruptWord, planWith}
+use Rattle.plan.proofs.Interrupt.{interrupt-sum}
+use Rattle.writes.specs.Writes.{deedWrites, descriptorOf}
 use Rattle.memory.specs.Writes.{applyWrites}
-use Rattle.carry.specs.Reply.{replyWords}
+use Rattle.writes.specs.Reply.{replyWords}
 use Rattle.message.specs.Answer.{acceptedWith}
 use Rattle.message.specs.Heard.{Heard}
 use Rattle.memory.specs.State.{State}

@@ -17,11 +17,11 @@ use Rattle.cells.specs.Stack.{stackWindow}
 use Rattle.cells.proofs.Sound.{cell-facts-sound}
 use Rattle.cells.proofs.Block.{stack-facts-sound}
 use Rattle.area.proofs.Whole.{AreaFine}
-use Rattle.arrival.specs.Target.{cellFor, targetOf}
-use Rattle.decide.specs.Plan.{planWith}
-use Rattle.carry.specs.Writes.{descriptorOf}
-use Rattle.carry.specs.Reply.{replyWrites, replyWords}
-use Rattle.carry.proofs.Replied.{reply-front, sent-few}
+use Rattle.lookup.specs.Target.{cellFor, targetOf}
+use Rattle.plan.specs.Plan.{planWith}
+use Rattle.writes.specs.Writes.{descriptorOf}
+use Rattle.writes.specs.Reply.{replyWrites, replyWords}
+use Rattle.writes.proofs.Replied.{reply-front, sent-few}
 use Rattle.message.specs.Heard.{Heard}
 use Rattle.message.specs.Tests.{cellUnsound, refusalFor}
 use Rattle.message.specs.Answer.{acceptedWith}

@@ -8,7 +8,7 @@ use Rattle.words.specs.declared.settings.Settings.{Settings}
 use Rattle.words.specs.Command.{transmits, isModeSubaddress}
 use Rattle.words.specs.Settings.{isNotOurs}
 use Rattle.windows.specs.Window.{windowsMeet}
-use Rattle.arrival.specs.Target.{targetOf}
+use Rattle.lookup.specs.Target.{targetOf}
 use Rattle.message.specs.Heard.{Heard}
 use Rattle.exchange.specs.Order.{swapAt}
 

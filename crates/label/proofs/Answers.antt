@@ -16,7 +16,7 @@ use Rattle.memory.specs.declared.kind.Kind.the-variants.{Receive, Transmit, Bro
 use Rattle.memory.specs.Kind.{kindNumbered}
 use Rattle.area.specs.Area.{groundRefusal}
 use Rattle.area.proofs.Before.{ground-small}
-use Rattle.spans.specs.Mark.{ableToWrite}
+use Rattle.memory.specs.Kind.{ableToWrite}
 use Rattle.label.specs.Label.{takesPart, meetingCells, meetingPairs, unsoundCells, sharerNumbered, noSharer, cellRefusal, unlessRefused, cellAnswer, cellLabel, areaPairs, areaUnsound, areaAnswer, areaLabel}
 use Rattle.label.proofs.Meeting.{TakesPart, part-facts, facts-part}
 use Rattle.label.proofs.Refused.{ground-first, part-decides, cell-listed}

@@ -17,7 +17,7 @@ use Rattle.cells.proofs.Sound.{sound-cell-facts, cell-facts-sound}
 use Rattle.area.specs.Area.{isRead, cellNumbered, isUnsound}
 use Rattle.area.proofs.Listed.{read-listed}
 use Rattle.area.proofs.Whole.{SoundAt}
-use Rattle.spans.specs.Span.{windowNumbered, readAndSound}
+use Rattle.label_spans.specs.Span.{windowNumbered, readAndSound}
 use Rattle.label.specs.Label.{takesPart, cellsMeet}
 
 module _ (ram : List ℕ) (s : Settings) where

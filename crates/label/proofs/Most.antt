@@ -17,7 +17,7 @@ use Rattle.cells.specs.Cell.{soundCell}
 use Rattle.area.specs.Area.{isRead, isUnsound, cellNumbered}
 use Rattle.area.proofs.Listed.{read-listed}
 use Rattle.label.specs.Listing.{above, passing, pairsWith, pairsBelow}
-use Rattle.spans.specs.Span.{readInVain}
+use Rattle.label_spans.specs.Span.{readInVain}
 use Rattle.label.specs.Label.{takesPart, cellsMeet, meetingCells, meetingPairs, unsoundCells}
 use Rattle.label.proofs.Turns.{passing-yes, passing-same, passing-none}
 use Rattle.label.proofs.Meeting.{part-facts, part-below, met-facts}

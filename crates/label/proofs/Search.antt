@@ -22,7 +22,7 @@ use Rattle.cells.specs.Cell.{cellAt, cellWindow, soundCell}
 use Rattle.cells.specs.Stack.{stackWindow}
 use Rattle.area.specs.Area.{isRead}
 use Rattle.area.proofs.Listed.{numbered-cell}
-use Rattle.spans.specs.Span.{windowNumbered, readAndSound}
+use Rattle.label_spans.specs.Span.{windowNumbered, readAndSound}
 use Rattle.label.specs.Listing.{passing}
 use Rattle.label.specs.Label.{takesPart, cellsMeet, meetingCells}
 use Rattle.label.specs.Search.{sharesWindow, sharesAt, sharersOfKind}

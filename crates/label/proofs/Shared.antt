@@ -12,7 +12,7 @@ use Rattle.words.proofs.Basics.{lt-or-ge, and-left, and-right, and-both}
 use Rattle.windows.specs.declared.window.Window.{Window}
 use Rattle.windows.specs.Window.{meets, windowsMeet}
 use Rattle.label.specs.Listing.{pairOf, pairWords}
-use Rattle.spans.specs.Span.{windowNumbered}
+use Rattle.label_spans.specs.Span.{windowNumbered}
 use Rattle.label.specs.Label.{cellsMeet, meetingCells, meetingPairs}
 use Rattle.label.proofs.Meeting.{TakesPart, part-facts, facts-part, part-below, Met, met-facts, facts-met, met-swap}
 use Rattle.label.proofs.Spans.{window-there}

@@ -17,8 +17,8 @@ use Rattle.label.specs.declared.one.CellLabel.{CellLabel}
 use Rattle.label.specs.declared.one.Counted.{Counted}
 use Rattle.label.specs.declared.whole.AreaLabel.{AreaLabel}
 use Rattle.label.specs.Listing.{Pair, passing, pairsBelow, pairWords}
-use Rattle.spans.specs.Mark.{ableToWrite}
-use Rattle.spans.specs.Span.{windowNumbered, readAndSound}
+use Rattle.memory.specs.Kind.{ableToWrite}
+use Rattle.label_spans.specs.Span.{windowNumbered, readAndSound}
 
 -- "Unsound cells .. take no part in pairs. The cells are those the whole-area check reads."
 unfoldable pub takesPart : List ℕ → Settings → ℕ → Bool

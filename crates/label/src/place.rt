@@ -1,10 +1,10 @@
 // The span at a place of the two lists that hold every cell's: the cell's own, and whether one meets it.
 ghost use mathlib.Core.Path.{_≡_};
 ghost use Prim.Native.Nat.{_<_};
-ghost use Rattle.spans.specs.Span.{spanAt, spansMeet};
-use spans::span::Places;
-use spans::span::Span;
-use spans::span::spans_meet;
+ghost use Rattle.label_spans.specs.Span.{spanAt, spansMeet};
+use label_spans::span::Places;
+use label_spans::span::Span;
+use label_spans::span::spans_meet;
 
 pub(crate) fn span_at(starts: &Places, ends: &Places, number: u16) -> Span
     requires { ⌜ number < 96 ⌝ }

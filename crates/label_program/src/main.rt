@@ -3,11 +3,11 @@
 // Thin: what is printed is settled in the library. The buffer has room for the label of any image.
 ghost use Prim.Native.Nat.{_≤_};
 ghost use lib.ListN.{length};
-use ends::image::load_image;
-use ends::image::put_image_line;
 use label_text::printed::put_area_text;
 use streams::input::fill;
 use streams::output::print;
+use trace_ends::image::load_image;
+use trace_ends::image::put_image_line;
 use words::settings::program_settings;
 
 // The label of a whole image, or the line of one that is cut short. Answers the length of the text.

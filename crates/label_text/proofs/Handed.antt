@@ -16,7 +16,7 @@ use Rattle.label.proofs.Members.{_∈_, pairs-exactly}
 use Rattle.label.proofs.Refused.{cell-listed, area-listed, room-filled}
 use Rattle.label.proofs.Most.{unsound-most, meeting-most, meeting-pairs-most}
 use Rattle.label.proofs.Answers.{count-most, unsound-count-most, pair-count-most}
-use Rattle.label_words.specs.Wording.{meetLine, refusedLine}
+use Rattle.wording.specs.Wording.{meetLine, refusedLine}
 use Rattle.label_text.specs.Printed.{pairLine, areaLines, areaText, cellLines, oneCellText, wordLine, AreaFits, linesOf, CellFits, cellLinesOf}
 
 -- a run that fits is taken back out

@@ -13,8 +13,8 @@ use Rattle.area.specs.Area.{groundRefusal}
 use Rattle.label.specs.Label.{meetingCells, meetingPairs, unsoundCells, cellRefusal}
 use Rattle.label.proofs.Most.{unsound-most, meeting-most, meeting-pairs-most}
 use Rattle.text.proofs.Lines.{named-most}
-use Rattle.label_words.specs.Wording.{alsoText, unsoundLine}
-use Rattle.label_words.proofs.Lengths.{cell-most, meet-most, also-most, refused-most}
+use Rattle.wording.specs.Wording.{alsoText, unsoundLine}
+use Rattle.wording.proofs.Lengths.{cell-most, meet-most, also-most, refused-most}
 use Rattle.label_text.specs.Printed.{pairLine, pairsName, cellsName, areaLines, areaText, sharerLine, cellLines, oneCellText}
 
 -- lines of which each has at most m bytes

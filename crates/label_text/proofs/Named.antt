@@ -7,7 +7,7 @@ use lib.ListN.{length, getD, take, drop}
 use lib.Seq.{take-all}
 use Rattle.text.specs.Text.{Put, newline}
 use Rattle.text.proofs.Runs.{put-none, put-then}
-use Rattle.label_words.specs.Wording.{cellText, unsoundName, alsoText, unsoundLine}
+use Rattle.wording.specs.Wording.{cellText, unsoundName, alsoText, unsoundLine}
 
 pub no-cells :
     (l cells : List ℕ) (at : ℕ) →

@@ -11,7 +11,7 @@ use Rattle.label.specs.declared.one.CellLabel.{CellLabel}
 use Rattle.label.specs.declared.whole.AreaLabel.{AreaLabel}
 use Rattle.label.specs.Listing.{Pair}
 use Rattle.label.specs.Label.{meetingCells, meetingPairs, unsoundCells, sharerNumbered, cellRefusal}
-use Rattle.label_words.specs.Wording.{meetLine, unsoundLine, refusedLine}
+use Rattle.wording.specs.Wording.{meetLine, unsoundLine, refusedLine}
 
 -- `pairs` and `cells`
 abbrev pub pairsName : List ℕ

@@ -4,19 +4,19 @@ ghost use mathlib.Core.List.{flatMap};
 ghost use lib.ListN.{take};
 ghost use Rattle.text.specs.Text.{Put, PutFirst};
 ghost use Rattle.label.specs.Label.{sharerNumbered};
-ghost use Rattle.label_words.specs.Wording.{alsoText, unsoundLine, meetLine};
+ghost use Rattle.wording.specs.Wording.{alsoText, unsoundLine, meetLine};
 ghost use Rattle.label_text.specs.Printed.{wordLine, AreaFits, CellFits, linesOf, cellLinesOf, areaText, oneCellText};
 use label::one::CellLabel;
 use label::one::label_cell;
 use label::one::sharer_numbered;
 use label::whole::AreaLabel;
 use label::whole::label_area;
-use label_words::wording::put_cell;
-use label_words::wording::put_meeting;
-use label_words::wording::put_refused;
 use text::line::put_named;
 use text::line::put_newline;
 use text::text::put_bytes;
+use wording::wording::put_cell;
+use wording::wording::put_meeting;
+use wording::wording::put_refused;
 use words::settings::Settings;
 
 // The lines of pairs, each in one word.

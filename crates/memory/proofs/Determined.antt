@@ -13,6 +13,12 @@ kind-number-settled κs a x y v w p q = (determined p q, refl)
 pub cell-number-settled : Settled 0 kind.cell_number.Kinds.ps kind.cell_number.Kinds.r kind.cell_number.Reads.Post
 cell-number-settled κs a x y v w p q = (determined p q, refl)
 
+pub kind-numbered-settled : Settled 0 kind.kind_numbered.Kinds.ps kind.kind_numbered.Kinds.r kind.kind_numbered.Reads.Post
+kind-numbered-settled κs a x y v w p q = (determined p q, refl)
+
+pub able-to-write-settled : Settled 0 kind.able_to_write.Kinds.ps kind.able_to_write.Kinds.r kind.able_to_write.Reads.Post
+able-to-write-settled κs a x y v w p q = (determined p q, refl)
+
 pub kind-of-settled : Settled 0 kind.kind_of.Kinds.ps kind.kind_of.Kinds.r kind.kind_of.Reads.Post
 kind-of-settled κs a x y v w p q = (determined p q, refl)
 

@@ -15,15 +15,15 @@ use Rattle.memory.specs.Writes.{applyWrites, writesTo}
 use Rattle.windows.specs.Window.{runFrom, aligned, placeOf, rollsOver, meets, meetsFixed}
 use Rattle.cells.specs.Cell.{controlPart, pickScheme, lookupAt, cellFrom, cellAt, windowOf, doubleFits, soundCell}
 use Rattle.cells.specs.Stack.{stackPointer, stackWindow, stackSound}
-use Rattle.arrival.specs.Target.{cellFor, isIllegal, isBusy, targetOf}
-use Rattle.acts.specs.Act.{withheld, wordsStored, wordsSent, actWith, actOf}
-use Rattle.acts.specs.Motion.{mayMove, stride, moves, motionWith, motionOf}
-use Rattle.deed.specs.Report.{blockStatus, statusBits, statusWord}
-use Rattle.deed.specs.Deed.{signalsOf, deedWith, deedOf}
-use Rattle.decide.specs.Entry.{entryOf}
-use Rattle.decide.specs.Plan.{interruptWord, planWith, planOf}
-use Rattle.carry.specs.Writes.{pointerWrites, descriptorOf, entryWrites, deedWrites, stackWrites, writesOf}
-use Rattle.carry.specs.Reply.{replyWrites, replyWords}
+use Rattle.lookup.specs.Target.{cellFor, isIllegal, isBusy, targetOf}
+use Rattle.plan.specs.Act.{withheld, wordsStored, wordsSent, actWith, actOf}
+use Rattle.plan.specs.Motion.{mayMove, stride, moves, motionWith, motionOf}
+use Rattle.plan.specs.Report.{blockStatus, statusBits, statusWord}
+use Rattle.plan.specs.Deed.{signalsOf, deedWith, deedOf}
+use Rattle.plan.specs.Entry.{entryOf}
+use Rattle.plan.specs.Plan.{interruptWord, planWith, planOf}
+use Rattle.writes.specs.Writes.{pointerWrites, descriptorOf, entryWrites, deedWrites, stackWrites, writesOf}
+use Rattle.writes.specs.Reply.{replyWrites, replyWords}
 use Rattle.message.specs.Tests.{cellUnsound, refusalFor}
 use Rattle.message.specs.Answer.{refusedWith, acceptedWith, answerFor}
 use Rattle.message.specs.Message.{rememberedWith, carriedOut, stateFor, answerOf, step}

@@ -25,12 +25,12 @@ use Rattle.memory.proofs.Numbers.{number-back, number-below, number-differs}
 use Rattle.area.proofs.Listed.{read-listed}
 use Rattle.memory.proofs.Places.{lookup-between, control-between, stack-pointer-between, busy-between, illegal-between, lookup-differs, lookup-not-control, lookup-not-stack-pointer, control-not-stack-pointer}
 use Rattle.area.proofs.Whole.{AreaFine, SoundAt}
-use Rattle.arrival.specs.Target.{cellFor, targetOf}
-use Rattle.acts.specs.Act.{actOf}
-use Rattle.acts.specs.Motion.{motionOf, moves}
-use Rattle.deed.specs.Deed.{deedWith, deedOf}
+use Rattle.lookup.specs.Target.{cellFor, targetOf}
+use Rattle.plan.specs.Act.{actOf}
+use Rattle.plan.specs.Motion.{motionOf, moves}
+use Rattle.plan.specs.Deed.{deedWith, deedOf}
 use Rattle.message.proofs.Sure.{Sure}
-use Rattle.deed.proofs.Contained.{single-stays, Contained, motion-contained}
+use Rattle.plan.proofs.Contained.{single-stays, Contained, motion-contained}
 use Rattle.message.proofs.Step.{afterMessage, deedFor, after-length, cell-low, target-sized, tables-stay, illegal-stay, stack-moves, lookup-after}
 
 -- what one RAM keeps of another

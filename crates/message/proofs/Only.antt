@@ -15,9 +15,9 @@ use Rattle.memory.specs.Map.{lookupPlace, stackPointerPlace}
 use Rattle.memory.specs.State.{State}
 use Rattle.cells.specs.Stack.{stackWindow}
 use Rattle.windows.proofs.Meets.{Outside}
-use Rattle.arrival.specs.Target.{targetOf}
-use Rattle.decide.specs.Plan.{planWith}
-use Rattle.carry.specs.Reply.{replyWords}
+use Rattle.lookup.specs.Target.{targetOf}
+use Rattle.plan.specs.Plan.{planWith}
+use Rattle.writes.specs.Reply.{replyWords}
 use Rattle.message.specs.Heard.{Heard}
 use Rattle.message.specs.Tests.{testsFor, refusalFor}
 use Rattle.message.specs.Message.{carriedOut, step}
@@ -25,7 +25,7 @@ use Rattle.message.proofs.Sure.{accepted-sure}
 use Rattle.message.proofs.Step.{plan-made, elsewhere, deedFor}
 use Rattle.message.proofs.Kept.{Kept, message-keeps, nothing-changed}
 use Rattle.message.proofs.Refusals.{accepted-state, refused-state}
-use Rattle.carry.proofs.Replied.{reply-behind, sent-few}
+use Rattle.writes.proofs.Replied.{reply-behind, sent-few}
 
 -- the address is none that the message may change
 pub record Elsewhere (ram : List ℕ) (s : Settings) (command a : ℕ) : Type 0 where

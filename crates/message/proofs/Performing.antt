@@ -21,14 +21,14 @@ use Rattle.windows.specs.declared.window.Window.{Window}
 use Rattle.cells.specs.declared.cell.Cell.{Cell}
 use Rattle.cells.specs.Cell.{windowOf, soundWithin, soundCell}
 use Rattle.cells.specs.Stack.{stackPointer, stackWindow, stackFits, stackSound}
-use Rattle.arrival.specs.declared.target.Target.{Target}
-use Rattle.arrival.specs.Target.{cellFor, targetWith, targetOf}
-use Rattle.deed.specs.Deed.{deedOf}
-use Rattle.decide.specs.Entry.{entryIn, entryOf}
-use Rattle.decide.specs.declared.plan.Plan.{Plan}
-use Rattle.decide.specs.Plan.{planWith, planOf}
-use Rattle.carry.specs.Writes.{writesOf}
-use Rattle.carry.specs.Reply.{replyWrites}
+use Rattle.lookup.specs.declared.target.Target.{Target}
+use Rattle.lookup.specs.Target.{cellFor, targetWith, targetOf}
+use Rattle.plan.specs.Deed.{deedOf}
+use Rattle.plan.specs.Entry.{entryIn, entryOf}
+use Rattle.plan.specs.declared.plan.Plan.{Plan}
+use Rattle.plan.specs.Plan.{planWith, planOf}
+use Rattle.writes.specs.Writes.{writesOf}
+use Rattle.writes.specs.Reply.{replyWrites}
 use Rattle.message.specs.declared.perform.Performed.{Performed}
 use Rattle.message.specs.declared.perform.Performed.the-variants.{Refused, Done}
 use Rattle.message.specs.Tests.{cellUnsound, earlyTests, recordTests, addressTests, commandTests, refusalFor}

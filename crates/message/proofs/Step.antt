@@ -23,19 +23,19 @@ use Rattle.cells.proofs.Sound.{sound-address, sound-place}
 use Rattle.cells.proofs.Block.{stack-nonempty, stack-word-from, stack-word-below, stack-address, tables-off, illegal-off}
 use Rattle.memory.proofs.Numbers.{number-below}
 use Rattle.memory.proofs.Places.{lookup-between, stack-pointer-between, lookup-not-stack-pointer, ordinary-not-lookup, ordinary-not-stack-pointer}
-use Rattle.deed.specs.declared.deed.Deed.{Deed}
-use Rattle.arrival.specs.Target.{cellFor, targetOf}
-use Rattle.acts.specs.Act.{wordsStored, actWith, actOf}
-use Rattle.acts.specs.Motion.{motionWith, motionOf}
+use Rattle.plan.specs.declared.deed.Deed.{Deed}
+use Rattle.lookup.specs.Target.{cellFor, targetOf}
+use Rattle.plan.specs.Act.{wordsStored, actWith, actOf}
+use Rattle.plan.specs.Motion.{motionWith, motionOf}
 use Rattle.words.specs.declared.remembered.Remembered.{Remembered}
-use Rattle.decide.specs.declared.plan.Plan.{Plan}
-use Rattle.decide.specs.Plan.{planWith, planOf}
-use Rattle.deed.specs.Deed.{deedWith, deedOf}
-use Rattle.decide.specs.Entry.{entryOf}
-use Rattle.deed.proofs.Reach.{deed-stored}
-use Rattle.deed.proofs.Contained.{pointer-exact}
-use Rattle.copies.specs.Copies.{dataWrites}
-use Rattle.carry.specs.Writes.{pointerWrites, descriptorOf, entryWrites, stackPointerWrites, deedWrites, stackWrites, writesOf}
+use Rattle.plan.specs.declared.plan.Plan.{Plan}
+use Rattle.plan.specs.Plan.{planWith, planOf}
+use Rattle.plan.specs.Deed.{deedWith, deedOf}
+use Rattle.plan.specs.Entry.{entryOf}
+use Rattle.plan.proofs.Reach.{deed-stored}
+use Rattle.plan.proofs.Contained.{pointer-exact}
+use Rattle.writes.specs.Copies.{dataWrites}
+use Rattle.writes.specs.Writes.{pointerWrites, descriptorOf, entryWrites, stackPointerWrites, deedWrites, stackWrites, writesOf}
 use Rattle.memory.specs.Writes.{applyWrites, writesTo}
 use Rattle.memory.proofs.Writes.{apply-append, length-apply}
 use Rattle.memory.proofs.Footprint.{Avoids, untouched, avoids-append, avoids-places, written}

@@ -19,7 +19,7 @@ use Rattle.cells.specs.Stack.{stackWindow, stackSound}
 use Rattle.cells.proofs.Sound.{CellSound, sound-cell-facts}
 use Rattle.cells.proofs.Block.{StackSound, stack-sound-facts}
 use Rattle.area.proofs.Whole.{AreaFine, fine-command}
-use Rattle.arrival.specs.Target.{cellFor}
+use Rattle.lookup.specs.Target.{cellFor}
 use Rattle.message.specs.Heard.{Heard}
 use Rattle.message.specs.Tests.{cellUnsound, testsFor, refusalFor}
 

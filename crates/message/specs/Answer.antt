@@ -2,7 +2,7 @@
 use Prim.Native.Nat.{ℕ}
 use mathlib.Core.Bool.{false, cond}
 use lib.Dec.{eqb}
-use Rattle.decide.specs.declared.plan.Plan.{Plan}
+use Rattle.plan.specs.declared.plan.Plan.{Plan}
 use Rattle.message.specs.declared.answer.Answer.{Answer}
 
 -- "Result: the number, the rest zero"

@@ -14,12 +14,12 @@ use Rattle.records.specs.Value.{zeroWords}
 use Rattle.words.specs.Fill.{fill}
 use Rattle.memory.specs.Map.{illegalPlace, busyPlace}
 use Rattle.memory.specs.State.{State, stateOf}
-use Rattle.decide.specs.declared.plan.Plan.{Plan}
+use Rattle.plan.specs.declared.plan.Plan.{Plan}
 use Rattle.message.specs.declared.answer.Answer.{Answer}
 use Rattle.faults.specs.Fault.{expectedWords}
-use Rattle.carry.specs.Writes.{writesOf}
+use Rattle.writes.specs.Writes.{writesOf}
 use Rattle.memory.specs.Writes.{Write, applyWrites, writesTo}
-use Rattle.carry.specs.Reply.{replyWords}
+use Rattle.writes.specs.Reply.{replyWords}
 use Rattle.message.specs.Heard.{heardValue}
 use Rattle.message.specs.Message.{planFor, answerOf, step}
 

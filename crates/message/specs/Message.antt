@@ -8,10 +8,10 @@ use Rattle.words.specs.declared.settings.Settings.{Settings}
 use Rattle.words.specs.declared.remembered.Remembered.{Remembered}
 use Rattle.memory.specs.State.{State}
 use Rattle.memory.specs.Writes.{applyWrites}
-use Rattle.decide.specs.declared.plan.Plan.{Plan}
-use Rattle.decide.specs.Plan.{planOf}
-use Rattle.carry.specs.Writes.{writesOf}
-use Rattle.carry.specs.Reply.{replyWrites}
+use Rattle.plan.specs.declared.plan.Plan.{Plan}
+use Rattle.plan.specs.Plan.{planOf}
+use Rattle.writes.specs.Writes.{writesOf}
+use Rattle.writes.specs.Reply.{replyWrites}
 use Rattle.message.specs.declared.answer.Answer.{Answer}
 use Rattle.message.specs.Heard.{Heard}
 use Rattle.message.specs.Tests.{refusalFor}

@@ -10,7 +10,7 @@ use Rattle.words.specs.Number.{ramLength}
 use Rattle.words.specs.Refusal.{Test, _when_}
 use Rattle.memory.specs.Map.{ramRefused}
 use Rattle.memory.specs.State.{State}
-use Rattle.decide.specs.declared.plan.Plan.{Plan}
+use Rattle.plan.specs.declared.plan.Plan.{Plan}
 use Rattle.message.specs.declared.perform.Performed.{Performed}
 use Rattle.message.specs.declared.perform.Performed.the-variants.{Refused, Done}
 use Rattle.message.specs.declared.answer.Answer.{Answer}

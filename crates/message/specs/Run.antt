@@ -5,8 +5,8 @@ use mathlib.Core.List.{List, [], _∷_}
 use lib.Dec.{eqb}
 use Rattle.words.specs.declared.settings.Settings.{Settings}
 use Rattle.memory.specs.State.{State}
-use Rattle.carry.specs.Writes.{descriptorOf}
-use Rattle.carry.specs.Reply.{replyWords}
+use Rattle.writes.specs.Writes.{descriptorOf}
+use Rattle.writes.specs.Reply.{replyWords}
 use Rattle.message.specs.declared.answer.Answer.{Answer}
 use Rattle.message.specs.Heard.{Heard}
 use Rattle.message.specs.Tests.{refusalFor}

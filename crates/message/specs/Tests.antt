@@ -13,7 +13,7 @@ use Rattle.memory.specs.Map.{ramRefused}
 use Rattle.memory.specs.State.{State}
 use Rattle.cells.specs.Cell.{soundCell}
 use Rattle.cells.specs.Stack.{stackWindow, stackSound}
-use Rattle.arrival.specs.Target.{cellFor}
+use Rattle.lookup.specs.Target.{cellFor}
 use Rattle.message.specs.Heard.{Heard}
 
 -- "reply buffer under 33 words"

@@ -1,7 +1,7 @@
 // What a message answers.
 ghost use mathlib.Core.Path.{_≡_};
 ghost use Rattle.message.specs.Answer.{refusedWith, acceptedWith};
-use decide::plan::Plan;
+use plan::plan::Plan;
 use words::remembered::Remembered;
 
 pub struct Answer {

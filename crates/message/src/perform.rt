@@ -3,22 +3,20 @@
 ghost use mathlib.Core.Path.{_≡_};
 ghost use Rattle.words.specs.Refusal.{firstOf};
 ghost use Rattle.memory.specs.State.{stateOf};
-ghost use Rattle.decide.specs.Plan.{planOf};
+ghost use Rattle.plan.specs.Plan.{planOf};
 ghost use Rattle.message.specs.Message.{rememberedWith, stateFor};
 ghost use Rattle.message.specs.Performed.{performTests, performedWith};
 use crate::tests::address_refusal;
-use arrival::target::cell_for;
-use arrival::target::target_with;
-use carry::carry::carry_out;
-use carry::reply::send;
 use cells::cell::sound_within;
 use cells::cell::window_of;
 use cells::stack::stack_fits;
 use cells::stack::stack_pointer;
 use cells::stack::stack_window;
-use decide::plan::Plan;
-use decide::plan::plan_for;
+use lookup::target::cell_for;
+use lookup::target::target_with;
 use memory::map::ram_refused;
+use plan::plan::Plan;
+use plan::plan::plan_for;
 use records::value::Record;
 use words::choose::no;
 use words::number::RAM_LENGTH;
@@ -26,6 +24,8 @@ use words::number::UNSOUND_CELL;
 use words::number::UNSOUND_STACK;
 use words::remembered::Remembered;
 use words::settings::Settings;
+use writes::carry::carry_out;
+use writes::reply::send;
 
 // Refused with a number, or done by a plan, with what is remembered after it.
 pub enum Performed {

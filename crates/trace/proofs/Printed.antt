@@ -9,7 +9,7 @@ use borrow.Author.Tests.{lt-ltb, le-ltb}
 use Rattle.words.specs.declared.settings.Settings.{Settings}
 use Rattle.words.specs.declared.remembered.Remembered.{Remembered}
 use Rattle.words.specs.Remembered.{nothingRemembered}
-use Rattle.ends.specs.Image.{imageRam, imageLine}
+use Rattle.trace_ends.specs.Image.{imageRam, imageLine}
 use Rattle.trace.specs.declared.walk.Walked.{Walked}
 use Rattle.trace.specs.Walk.{Walk, walkAll, walkStart, walkedOf, anew}
 use Rattle.words.specs.Settings.{programSettings}

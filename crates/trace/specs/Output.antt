@@ -7,8 +7,8 @@ use lib.ListN.{length, take, drop, replicate}
 use lib.Dec.{ltb}
 use Rattle.words.specs.Settings.{programSettings}
 use Rattle.words.specs.Remembered.{nothingRemembered}
-use Rattle.ends.specs.Image.{imageRam, imageLine}
-use Rattle.ends.specs.LastLines.{lastLines}
+use Rattle.trace_ends.specs.Image.{imageRam, imageLine}
+use Rattle.trace_ends.specs.LastLines.{lastLines}
 use Rattle.trace.specs.Walk.{Walk, walkStart, walkAll, anew}
 
 -- from a walk on to the end of the trace: a line for each whole record, and the last lines

@@ -5,12 +5,12 @@
 
 ghost use Prim.Native.Nat.{_≤_};
 ghost use lib.ListN.{length};
-use ends::image::load_image;
-use ends::image::put_image_line;
-use ends::last_lines::put_last_lines;
 use streams::input::fill;
 use streams::output::print;
 use trace::walk::walk;
+use trace_ends::image::load_image;
+use trace_ends::image::put_image_line;
+use trace_ends::last_lines::put_last_lines;
 use words::remembered::Remembered;
 use words::remembered::nothing_remembered;
 use words::settings::program_settings;

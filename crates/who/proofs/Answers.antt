@@ -20,25 +20,25 @@ use Rattle.memory.specs.Writes.{Write, writesTo}
 use Rattle.memory.proofs.Writes.{length-apply}
 use Rattle.memory.proofs.Footprint.{untouched}
 use Rattle.windows.specs.Window.{placeOf}
-use Rattle.deed.specs.declared.deed.Deed.{Deed}
-use Rattle.decide.specs.declared.plan.Plan.{Plan}
-use Rattle.carry.specs.Writes.{pointerWrites, deedWrites, stackWrites, writesOf}
-use Rattle.carry.proofs.Replied.{length-writes}
+use Rattle.plan.specs.declared.deed.Deed.{Deed}
+use Rattle.plan.specs.declared.plan.Plan.{Plan}
+use Rattle.writes.specs.Writes.{pointerWrites, deedWrites, stackWrites, writesOf}
+use Rattle.writes.proofs.Replied.{length-writes}
 use Rattle.message.specs.Heard.{Heard}
 use Rattle.message.specs.Tests.{refusalFor}
 use Rattle.message.specs.Message.{planFor, step}
 use Rattle.message.specs.Run.{run}
-use Rattle.origin.specs.declared.origin.Origin.{Origin}
-use Rattle.origin.specs.declared.origin.Part.the-variants.{Data}
-use Rattle.origin.specs.declared.origin.Who.{Who}
-use Rattle.origin.specs.declared.origin.Who.the-variants.{AsInImage, Written}
-use Rattle.origin.specs.Origin.{lastPlace, partAt, whoAt}
+use Rattle.who_origin.specs.declared.origin.Origin.{Origin}
+use Rattle.who_origin.specs.declared.origin.Part.the-variants.{Data}
+use Rattle.who_origin.specs.declared.origin.Who.{Who}
+use Rattle.who_origin.specs.declared.origin.Who.the-variants.{AsInImage, Written}
+use Rattle.who_origin.specs.Origin.{lastPlace, partAt, whoAt}
 use Rattle.who.specs.Next.{writesIn, whoNext}
 use Rattle.who.specs.Tests.{whoTests, whoRefusal}
 use Rattle.who.specs.Values.{valuesOf}
 use Rattle.who.specs.Replay.{Replay, replayOf, replayRecord, replay, beginning, refusedAt, asked}
 use Rattle.who.specs.Answered.{terminalWith, noneWrites, wordAt, Named, Answered}
-use Rattle.origin.proofs.Last.{none-avoids, last-word}
+use Rattle.who_origin.proofs.Last.{none-avoids, last-word}
 use Rattle.who.proofs.Gone.{part-refused, part-replayed}
 use Rattle.who.proofs.Alike.{Alike, writes-made, plan-alike, writes-alike, record-alike, replay-alike}
 

@@ -10,9 +10,9 @@ use borrow.Author.Tests.{eq-eqb, ne-eqb}
 use Rattle.words.specs.declared.settings.Settings.{Settings}
 use Rattle.words.proofs.Basics.{yes-or-no}
 use Rattle.message.specs.Heard.{Heard}
-use Rattle.origin.specs.declared.origin.Who.{Who}
-use Rattle.origin.specs.declared.origin.Who.the-variants.{Refused, AsInImage, Written}
-use Rattle.origin.specs.Origin.{lastPlace, whoAt}
+use Rattle.who_origin.specs.declared.origin.Who.{Who}
+use Rattle.who_origin.specs.declared.origin.Who.the-variants.{Refused, AsInImage, Written}
+use Rattle.who_origin.specs.Origin.{lastPlace, whoAt}
 use Rattle.who.specs.Tests.{whoRefusal}
 use Rattle.who.specs.Next.{writesIn, whoNext}
 use Rattle.who.specs.Values.{valuesOf}

@@ -12,11 +12,11 @@ use Rattle.message.specs.Heard.{Heard}
 use Rattle.message.specs.Tests.{refusalFor}
 use Rattle.message.specs.Message.{planFor, step}
 use Rattle.message.specs.Run.{run}
-use Rattle.origin.specs.declared.origin.Origin.{Origin}
-use Rattle.origin.specs.declared.origin.Part.the-variants.{Data}
-use Rattle.origin.specs.declared.origin.Who.the-variants.{AsInImage, Written}
+use Rattle.who_origin.specs.declared.origin.Origin.{Origin}
+use Rattle.who_origin.specs.declared.origin.Part.the-variants.{Data}
+use Rattle.who_origin.specs.declared.origin.Who.the-variants.{AsInImage, Written}
 use Rattle.who.specs.Tests.{whoRefusal}
-use Rattle.origin.specs.Origin.{lastPlace, partAt}
+use Rattle.who_origin.specs.Origin.{lastPlace, partAt}
 use Rattle.who.specs.Next.{writesIn}
 use Rattle.who.specs.Values.{valuesOf}
 use Rattle.who.specs.Replay.{terminalOf, replayOf, beginning, refusedAt, asked}

@@ -6,12 +6,12 @@ use lib.Dec.{eqb}
 use Rattle.words.specs.declared.settings.Settings.{Settings}
 use Rattle.memory.specs.State.{State}
 use Rattle.memory.specs.Writes.{Write}
-use Rattle.carry.specs.Writes.{writesOf}
+use Rattle.writes.specs.Writes.{writesOf}
 use Rattle.message.specs.Heard.{Heard}
 use Rattle.message.specs.Tests.{refusalFor}
 use Rattle.message.specs.Message.{planFor}
-use Rattle.origin.specs.declared.origin.Who.{Who}
-use Rattle.origin.specs.Origin.{lastPlace, whoAt}
+use Rattle.who_origin.specs.declared.origin.Who.{Who}
+use Rattle.who_origin.specs.Origin.{lastPlace, whoAt}
 
 -- a record's list of writes; one that is refused writes nothing
 unfoldable pub writesIn : Settings → Heard → State → List Write

@@ -11,7 +11,7 @@ use Rattle.memory.specs.State.{State, stateOf}
 use Rattle.message.specs.Heard.{Heard, heardBytes}
 use Rattle.message.specs.Message.{step}
 use Rattle.trace.specs.Walk.{recordAt, wholeRecords, nextNumber}
-use Rattle.origin.specs.declared.origin.Who.the-variants.{Refused, AsInImage}
+use Rattle.who_origin.specs.declared.origin.Who.the-variants.{Refused, AsInImage}
 use Rattle.who.specs.declared.standing.Standing.{Standing}
 use Rattle.who.specs.Tests.{whoRefusal}
 use Rattle.who.specs.Next.{whoNext}

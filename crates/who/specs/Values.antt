@@ -1,9 +1,9 @@
 -- The number and the values of each case of an answer. "Result: the number, the rest zero".
 use Prim.Native.Nat.{ℕ}
-use Rattle.origin.specs.declared.origin.Part.{Part}
-use Rattle.origin.specs.declared.origin.Part.the-variants.{Data, Pointer, Stack, StackPointer}
-use Rattle.origin.specs.declared.origin.Who.{Who}
-use Rattle.origin.specs.declared.origin.Who.the-variants.{Refused, AsInImage, Written}
+use Rattle.who_origin.specs.declared.origin.Part.{Part}
+use Rattle.who_origin.specs.declared.origin.Part.the-variants.{Data, Pointer, Stack, StackPointer}
+use Rattle.who_origin.specs.declared.origin.Who.{Who}
+use Rattle.who_origin.specs.declared.origin.Who.the-variants.{Refused, AsInImage, Written}
 use Rattle.who.specs.declared.values.Values.{Values}
 
 -- what a write is: 1 data word, 2 lookup pointer, 3 stack word, 4 stack pointer

@@ -1,7 +1,7 @@
 // Where the question about one address stands between two parts of a trace.
 ghost use mathlib.Core.Path.{_≡_};
 ghost use Rattle.who.specs.Replay.{beginning};
-use origin::origin::Who;
+use who_origin::origin::Who;
 use words::remembered::Remembered;
 use words::remembered::nothing_remembered;
 

@@ -4,13 +4,13 @@
 // The input is the address, four hexadecimal digits and a newline; then what the trace program reads, 8,192 bytes of
 // image and the records. Where the first line is no address, `address` is printed and nothing else. Thin: what is
 // printed is settled in the library. A refill is a whole number of records, so none is split.
-use ends::image::load_image;
-use ends::image::put_image_line;
-use replay::question::go_on;
 use streams::input::fill;
 use streams::output::print;
+use trace_ends::image::load_image;
+use trace_ends::image::put_image_line;
 use who::standing::Standing;
 use who::standing::begin;
+use who_replay::question::go_on;
 use who_text::address::read_address;
 use who_text::line::put_who_line;
 use words::settings::program_settings;

@@ -10,12 +10,12 @@ use Rattle.memory.specs.declared.kind.Kind.the-variants.{Receive, Transmit, Bro
 use Rattle.memory.specs.Kind.{kindNumbered}
 use Rattle.text.proofs.Runs.{length-hex}
 use Rattle.text.proofs.Numerals.{decimal-most}
-use Rattle.label_words.proofs.Lengths.{kind-most, either-most, refused-most}
-use Rattle.origin.specs.declared.origin.Part.{Part}
-use Rattle.origin.specs.declared.origin.Part.the-variants.{Data, Pointer, Stack, StackPointer}
-use Rattle.origin.specs.declared.origin.Origin.{Origin}
-use Rattle.origin.specs.declared.origin.Who.{Who}
-use Rattle.origin.specs.declared.origin.Who.the-variants.{Refused, AsInImage, Written}
+use Rattle.wording.proofs.Lengths.{kind-most, either-most, refused-most}
+use Rattle.who_origin.specs.declared.origin.Part.{Part}
+use Rattle.who_origin.specs.declared.origin.Part.the-variants.{Data, Pointer, Stack, StackPointer}
+use Rattle.who_origin.specs.declared.origin.Origin.{Origin}
+use Rattle.who_origin.specs.declared.origin.Who.{Who}
+use Rattle.who_origin.specs.declared.origin.Who.the-variants.{Refused, AsInImage, Written}
 use Rattle.who_text.specs.Line.{cellName, stackName, dataText, pointerText, stackText, partText, originLine, answerLine, whoLine}
 
 cell-most : (cell : ℕ) → length (cellName cell) ≤ 41

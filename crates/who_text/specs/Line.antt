@@ -6,12 +6,12 @@ use lib.Dec.{eqb}
 use Rattle.memory.specs.Kind.{kindNumbered}
 use Rattle.text.specs.Text.{hexText, decimalText, newline}
 use Rattle.text.specs.Line.{column}
-use Rattle.label_words.specs.Wording.{kindName, comma, refusedLine}
-use Rattle.origin.specs.declared.origin.Part.{Part}
-use Rattle.origin.specs.declared.origin.Part.the-variants.{Data, Pointer, Stack, StackPointer}
-use Rattle.origin.specs.declared.origin.Origin.{Origin}
-use Rattle.origin.specs.declared.origin.Who.{Who}
-use Rattle.origin.specs.declared.origin.Who.the-variants.{Refused, AsInImage, Written}
+use Rattle.wording.specs.Wording.{kindName, comma, refusedLine}
+use Rattle.who_origin.specs.declared.origin.Part.{Part}
+use Rattle.who_origin.specs.declared.origin.Part.the-variants.{Data, Pointer, Stack, StackPointer}
+use Rattle.who_origin.specs.declared.origin.Origin.{Origin}
+use Rattle.who_origin.specs.declared.origin.Who.{Who}
+use Rattle.who_origin.specs.declared.origin.Who.the-variants.{Refused, AsInImage, Written}
 
 -- ` subaddress`
 abbrev pub subaddressName : List ℕ

@@ -1,16 +1,16 @@
 // The answer about an address as a line, into a lent buffer. Each function answers the place after what it puts there.
 ghost use Rattle.text.specs.Text.{Put};
 ghost use Rattle.who_text.specs.Line.{cellName, stackName, dataText, pointerText, stackText, partText, originLine, answerLine, whoLine};
-use label_words::wording::put_kind;
-use label_words::wording::put_refused;
-use origin::origin::Origin;
-use origin::origin::Part;
-use origin::origin::Who;
-use spans::numbered::kind_numbered;
+use memory::kind::kind_numbered;
 use text::line::put_hex_word;
 use text::line::put_newline;
 use text::line::put_number;
 use text::text::put_bytes;
+use who_origin::origin::Origin;
+use who_origin::origin::Part;
+use who_origin::origin::Who;
+use wording::wording::put_kind;
+use wording::wording::put_refused;
 
 // A cell by its kind and its subaddress.
 fn put_cell_name(out: &mut [u8], at: usize, cell: u16) -> usize

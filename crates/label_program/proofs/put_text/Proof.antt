@@ -2,7 +2,7 @@
 use Prim.Native.Nat.{_≤_}
 use native.Mathlib.Omega.{arith}
 use borrow.Author.Needs.{needs}
-use Rattle.ends.proofs.Lengths.{image-most}
+use Rattle.trace_ends.proofs.Lengths.{image-most}
 use Rattle.label_text.proofs.Most.{area-room}
 use Rattle.label_program.proofs.put_text.Statement.{statement}
 use Rattle.label_program.proofs.put_text.Tie as tie

@@ -1,7 +1,7 @@
 -- `image_and_trace` is safe and ends.
 use native.Mathlib.Omega.{arith}
 use borrow.Author.Needs.{needs}
-use Rattle.ends.proofs.Lengths.{image-most}
+use Rattle.trace_ends.proofs.Lengths.{image-most}
 use Rattle.trace_program.proofs.image_and_trace.Statement.{statement}
 use Rattle.trace_program.proofs.image_and_trace.Tie as tie
 

@@ -3,7 +3,7 @@ use native.Mathlib.Omega.{arith}
 use mathlib.Core.Path.{_≡_, _∙_}
 use lib.ListN.{length}
 use borrow.Author.Needs.{needs}
-use Rattle.ends.proofs.Lengths.{last-most}
+use Rattle.trace_ends.proofs.Lengths.{last-most}
 use Rattle.trace_program.proofs.run.Statement.{statement}
 use Rattle.trace_program.proofs.run.Tie as tie
 

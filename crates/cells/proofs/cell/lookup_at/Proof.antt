@@ -31,8 +31,8 @@ word-at-requires-2 c κs = search needs
 control-part-requires : tie.Need-control-part-requires
 control-part-requires c κs = search needs
 
-doubles-kind-requires : tie.Need-doubles-kind-requires
-doubles-kind-requires c κs = search needs
+able-to-write-requires : tie.Need-able-to-write-requires
+able-to-write-requires c κs = search needs
 
 both-requires : tie.Need-both-requires
 both-requires c κs = search needs
@@ -45,7 +45,7 @@ returns c =
     let control = number .before .before in
     rw (
       c .both .ensures,
-      c .before .doubles-kind .ensures,
+      c .before .able-to-write .ensures,
       part .control-part .ensures,
       part .before .word-at2 .ensures,
       number .cell-number .ensures,
@@ -65,6 +65,6 @@ lookup-at-spec =
     add-word-at
     word-at-requires-2
     control-part-requires
-    doubles-kind-requires
+    able-to-write-requires
     both-requires
     returns)

@@ -1,6 +1,6 @@
 -- `takes_part` meets its contract: the same tests.
 use borrow.Author.Needs.{needs}
-use Rattle.spans.specs.Span.{readAndSound}
+use Rattle.label_spans.specs.Span.{readAndSound}
 use Rattle.label.specs.Label.{takesPart}
 use Rattle.label.proofs.one.takes_part.Statement.{statement}
 use Rattle.label.proofs.one.takes_part.Tie as tie

@@ -6,7 +6,7 @@ use mathlib.Core.Path.{_≡_, refl, ap, _∙_}
 use mathlib.Core.Logic.{⊎-elim}
 use lib.ListN.{replicate}
 use Rattle.label.specs.Listing.{passing}
-use Rattle.spans.specs.Span.{readInVain}
+use Rattle.label_spans.specs.Span.{readInVain}
 use Rattle.label.proofs.Turns.{Run, itself, run-starts, run-put, run-passed, unsound-told}
 use Rattle.label.proofs.Most.{listed-fits, vain-most}
 use Rattle.label.proofs.Spans.{turn-vain}

@@ -5,7 +5,7 @@ use native.Mathlib.Omega.{arith}
 use Prim.Native.Nat.{_-_, _≤_}
 use mathlib.Core.Path.{_≡_}
 use lib.Seq.{length-sets}
-use Rattle.spans.specs.Span.{placesMeet}
+use Rattle.label_spans.specs.Span.{placesMeet}
 use Rattle.label.proofs.Turns.{Rows, no-rows, rows-put, rows-small}
 use Rattle.label.proofs.whole.put_pairs.Statement.{statement}
 use Rattle.label.proofs.whole.put_pairs.Tie as tie

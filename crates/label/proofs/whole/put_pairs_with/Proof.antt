@@ -5,7 +5,7 @@ use Prim.Native.Nat.{_-_, _≤_, _<_}
 use mathlib.Core.Path.{refl, _∙_}
 use mathlib.Core.Logic.{⊎-elim}
 use lib.Seq.{length-sets}
-use Rattle.spans.specs.Span.{placesMeet}
+use Rattle.label_spans.specs.Span.{placesMeet}
 use Rattle.label.proofs.Spans.{turn-above, spanless-none}
 use Rattle.label.proofs.Turns.{above-none, Row, run-starts, run-put, run-passed, run-small, row-done, row-skipped}
 use Rattle.label.proofs.whole.put_pairs_with.Statement.{statement}

@@ -6,7 +6,7 @@ use mathlib.Core.List.{flatMap}
 use lib.ListN.{length, take}
 use native.Mathlib.Omega.{arith}
 use Rattle.text.specs.Text.{Put}
-use Rattle.label_words.specs.Wording.{alsoText}
+use Rattle.wording.specs.Wording.{alsoText}
 use Rattle.text.proofs.Runs.{put-then}
 use Rattle.label_text.proofs.Lines.{no-lines, put-line, all-lines, put-kept}
 use Rattle.label_text.proofs.printed.put_others.Statement.{statement}

@@ -6,7 +6,7 @@ use mathlib.Core.Path.{_≡_}
 use mathlib.Core.List.{flatMap}
 use lib.ListN.{take}
 use Rattle.text.specs.Text.{Put}
-use Rattle.label_words.specs.Wording.{meetLine}
+use Rattle.wording.specs.Wording.{meetLine}
 use Rattle.label.specs.Label.{noSharer}
 use Rattle.label_text.proofs.Lines.{no-lines, put-line, put-kept}
 use Rattle.label_text.proofs.printed.put_sharers.Statement.{statement}

@@ -1,0 +1,47 @@
+-- A part of a trace is lent what the part before left: what was put there is read again.
+use Prim.Native.Nat.{ℕ, _≤_, _<_}
+use native.Mathlib.Omega.{arith}
+use mathlib.Core.Path.{_≡_}
+use mathlib.Core.List.{List}
+use lib.ListN.{length, set, length-set}
+use lib.Seq.{getD-set-same, getD-set-other}
+use Rattle.words.specs.declared.settings.Settings.{Settings}
+use Rattle.words.specs.declared.remembered.Remembered.{Remembered}
+use Rattle.message.specs.Heard.{Heard}
+use Rattle.who_tables.specs.Table.{Tables, filledWith}
+use Rattle.c_words.specs.Over.{over}
+use Rattle.c_words.specs.Setup.{rememberedFrom, rememberedWords}
+use Rattle.c_who.specs.Origins.{LentTables, fillingFrom, tablesIn, tablesBack, tablesAfter}
+
+-- room for what is remembered, two words, and for how many records have gone by
+pub record Room (l : LentTables) : Type 0 where
+  pub remembered : 2 ≤ length (l .remembered)
+  pub records : 1 ≤ length (l .records)
+
+remembered-again : (xs : List ℕ) (m : Remembered) → 2 ≤ length xs → rememberedFrom (over xs (rememberedWords m)) ≡ m
+unfolding rememberedFrom rememberedWords
+remembered-again xs m l =
+    let long : 1 < length (set xs 0 (m .command)) = rw length-set (omega arith) in
+    rw (
+      getD-set-other (set xs 0 (m .command)) 1 0 (m .status) 0 (λ e. omega arith),
+      getD-set-same xs 0 (m .command) 0 (omega arith),
+      getD-set-same (set xs 0 (m .command)) 1 (m .status) 0 long,
+    )
+
+back-again : (l : LentTables) (t : Tables) → Room l → tablesIn (tablesBack l t) ≡ t
+unfolding tablesBack fillingFrom
+back-again l t r =
+    rw (
+      remembered-again (l .remembered) (t .at .remembered) (r .remembered),
+      getD-set-same (l .records) 0 (t .at .number) 0 (r .records),
+    )
+
+module _ (s : Settings) (hs : List Heard) (l : LentTables) (r : Room l) where
+  pub after-again : tablesIn (tablesAfter s hs l) ≡ filledWith s hs (tablesIn l)
+  unfolding tablesAfter
+  after-again = back-again l (filledWith s hs (tablesIn l)) r
+
+  pub still-room : Room (tablesAfter s hs l)
+  unfolding tablesAfter tablesBack rememberedWords
+  still-room =
+      record { remembered = rw (length-set, length-set) (r .remembered); records = rw length-set (r .records) }

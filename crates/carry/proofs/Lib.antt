@@ -1,3 +1,0 @@
-pub mod Replied
-pub mod Carried
-pub mod Determined

@@ -1,2 +1,0 @@
-pub mod TwoRuns
-pub mod Determined

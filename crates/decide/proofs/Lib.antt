@@ -1,2 +1,0 @@
-pub mod Interrupt
-pub mod Determined

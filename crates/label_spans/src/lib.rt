@@ -1,0 +1,2 @@
+// The windows of all cells, read once. Below the label.
+pub mod span;

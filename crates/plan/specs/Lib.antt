@@ -1,0 +1,6 @@
+pub mod Act
+pub mod Motion
+pub mod Report
+pub mod Deed
+pub mod Entry
+pub mod Plan

@@ -1,2 +1,0 @@
-pub mod Mark
-pub mod Span

@@ -1,0 +1,4 @@
+pub mod TwoRuns
+pub mod Replied
+pub mod Carried
+pub mod Determined
