@@ -25,4 +25,4 @@ answerWords a =
 -- put over what is lent; of a refusal nothing: "RAM, reply and remembered state keep their contents"
 unfoldable pub rememberedOver : Performed → List ℕ → List ℕ
 rememberedOver (Refused number) xs = xs
-rememberedOver (Done p m) xs = over xs (rememberedWords m)
+rememberedOver (Done p) xs = over xs (rememberedWords (p .remembered))

@@ -41,7 +41,8 @@ pub fn hand_back(remembered: &mut [u16], answer: &mut [u16], performed: Performe
             put_refusal(answer, number);
             number
         }
-        Performed::Done(plan, m) => {
+        Performed::Done(plan) => {
+            let m = plan.remembered;
             put_remembered(remembered, m);
             put_answer(answer, accepted_with(plan));
             0

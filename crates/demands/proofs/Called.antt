@@ -2,11 +2,10 @@
 use mathlib.Core.Path.{_≡_, refl, sym, _∙_}
 use mathlib.Core.Logic.{inl, inr}
 use denote.Ref.{now}
-use Rattle.words.specs.declared.remembered.Remembered.{Remembered}
 use Rattle.plan.specs.declared.plan.Plan.{Plan}
 use Rattle.message.specs.declared.perform.Performed.the-variants.{Done}
 use Rattle.message.specs.Heard.{heardValue, heardBytes}
-use Rattle.message.specs.Message.{planFor, rememberedWith}
+use Rattle.message.specs.Message.{planFor}
 use Rattle.message.specs.Tests.{refusalFor}
 use Rattle.message.specs.Performed.{performedOf, answerIn, rememberedIn}
 use Rattle.message.proofs.Performing.{told, performed-done}
@@ -48,14 +47,14 @@ call-served (inr (inl c)) = perform-bytes c
 call-served (inr (inr c)) = perform-value c
 
 -- and its plan is the definitions'
-pub plan-bytes : (c : PerformBytes) (p : Plan) (m : Remembered) → c .back ≡ Done p m → p ≡ planned (performBytes c)
+pub plan-bytes : (c : PerformBytes) (p : Plan) → c .back ≡ Done p → p ≡ planned (performBytes c)
 unfolding performedOf
-plan-bytes c p m e =
+plan-bytes c p e =
     let n = performBytes c in
-    performed-done (refusalFor (n .settings) (n .heard) (n .before)) (planned n) _ p m (sym e ∙ c .allowed .0) .plan
+    performed-done (refusalFor (n .settings) (n .heard) (n .before)) (planned n) p (sym e ∙ c .allowed .0) .plan
 
-pub plan-value : (c : PerformValue) (p : Plan) (m : Remembered) → c .back ≡ Done p m → p ≡ planned (performValue c)
+pub plan-value : (c : PerformValue) (p : Plan) → c .back ≡ Done p → p ≡ planned (performValue c)
 unfolding performedOf
-plan-value c p m e =
+plan-value c p e =
     let n = performValue c in
-    performed-done (refusalFor (n .settings) (n .heard) (n .before)) (planned n) _ p m (sym e ∙ c .allowed .0) .plan
+    performed-done (refusalFor (n .settings) (n .heard) (n .before)) (planned n) p (sym e ∙ c .allowed .0) .plan

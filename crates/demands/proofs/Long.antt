@@ -53,11 +53,11 @@ perform-long c =
     refl in
     record { answer = t .0; after = t .1 }
 
-pub plan-long : (c : PerformLong) (p : Plan) (m : Remembered) → c .back ≡ Done p m → p ≡ planned (performLong c)
+pub plan-long : (c : PerformLong) (p : Plan) → c .back ≡ Done p → p ≡ planned (performLong c)
 unfolding performedOf
-plan-long c p m e =
+plan-long c p e =
     let n = performLong c in
-    performed-done (refusalFor (n .settings) (n .heard) (n .before)) (planned n) _ p m (sym e ∙ c .allowed .0) .plan
+    performed-done (refusalFor (n .settings) (n .heard) (n .before)) (planned n) p (sym e ∙ c .allowed .0) .plan
 
 -- ---- demand 1
 

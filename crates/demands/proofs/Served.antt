@@ -85,12 +85,12 @@ module _ (m : Message) (w : Worked m) (e : refusalFor (m .settings) (m .heard) (
       Same a
   unfolding Same stackPointer
   same-others a stored descriptor =
-      ⊎-elim (λ (l : a ≡ lookupPlace (s .area) (deed m .cell)). rw l (w .pointer ∙ sym (v .pointer)))
+      ⊎-elim (λ (l : a ≡ lookupPlace (s .area) (deed m .cell)). rw l (w .cell .pointer ∙ sym (v .cell .pointer)))
       (λ (l : a ≡ lookupPlace (s .area) (deed m .cell) → ⊥).
       ⊎-elim (λ (p : a ≡ stackPointerPlace (s .area)). rw p (w .stack ∙ sym (v .stack)))
       (λ (p : a ≡ stackPointerPlace (s .area) → ⊥).
-      w .others a (record { stored = stored; pointer = l; descriptor = descriptor; stack = p })
-      ∙ sym (v .others a (record { stored = stored; pointer = l; descriptor = descriptor; stack = p })))
+      w .others a (record { cell = record { stored = stored; pointer = l }; descriptor = descriptor; stack = p })
+      ∙ sym (v .others a (record { cell = record { stored = stored; pointer = l }; descriptor = descriptor; stack = p })))
       (eq-or-ne a (stackPointerPlace (s .area))))
       (eq-or-ne a (lookupPlace (s .area) (deed m .cell)))
 
@@ -99,7 +99,7 @@ module _ (m : Message) (w : Worked m) (e : refusalFor (m .settings) (m .heard) (
   same-word a =
       ⊎-elim
       (λ (f : Found (placeOf (deed m .window)) a (deed m .stored)).
-      rw (f .same) (w .stored (f .place) (f .below) ∙ sym (v .stored (f .place) (f .below))))
+      rw (f .same) (w .cell .stored (f .place) (f .below) ∙ sym (v .cell .stored (f .place) (f .below))))
       (λ (stored : (k : ℕ) → k < deed m .stored → a ≡ placeOf (deed m .window) k → ⊥).
       ⊎-elim
       (λ (f : Found (λ k. pointer + k) a 4).

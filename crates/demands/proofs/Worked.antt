@@ -21,6 +21,7 @@ use Rattle.cells.specs.Stack.{stackPointer, stackWindow}
 use Rattle.lookup.specs.Target.{targetOf}
 use Rattle.plan.specs.Deed.{deedWith, deedOf}
 use Rattle.plan.specs.declared.plan.Plan.{Plan}
+use Rattle.words.specs.Remembered.{remembering}
 use Rattle.plan.specs.Plan.{planWith, planOf}
 use Rattle.plan.specs.Entry.{entryOf}
 use Rattle.writes.specs.Copies.{dataWrites}
@@ -31,10 +32,10 @@ use Rattle.message.specs.declared.answer.Answer.{Answer}
 use Rattle.message.specs.Heard.{Heard}
 use Rattle.message.specs.Tests.{testsFor, refusalFor}
 use Rattle.message.specs.Answer.{acceptedWith}
-use Rattle.message.specs.Message.{planFor, rememberedWith, carriedOut, answerOf, step}
+use Rattle.message.specs.Message.{planFor, carriedOut, answerOf, step}
 use Rattle.message.proofs.Refusals.{message-done, number-told, accepted-answer, accepted-state}
 use Rattle.message.proofs.Sure.{Sure, accepted-sure}
-use Rattle.message.proofs.Step.{stored-stands, lookup-after, entry-stands, stack-moves}
+use Rattle.message.proofs.Step.{afterMessage, after-made, stored-stands, lookup-after, entry-stands, stack-moves}
 use Rattle.demands.specs.Calls.{Message}
 use Rattle.demands.specs.Meets.{deed, Untouched, Worked, MessageWorked}
 use Rattle.demands.proofs.Sent.{words-told}
@@ -75,6 +76,9 @@ module _ (s : Settings) (h : Heard) (x : State) (e : refusalFor s h x ≡ 0) whe
   unfolding carriedOut
   after-ram = ap (λ (y : State). y .ram) (accepted-state s h x e)
 
+  after-there : step s h x .ram ≡ afterMessage (x .ram) s (h .value)
+  after-there = after-ram ∙ after-made s (x .ram) (x .remembered) (h .value)
+
   replied :
       step s h x .reply
       ≡ replyWords (x .ram) (plan .deed) ++ drop (length (replyWords (x .ram) (plan .deed))) (x .reply)
@@ -85,8 +89,8 @@ module _ (s : Settings) (h : Heard) (x : State) (e : refusalFor s h x ≡ 0) whe
       ∙ reply-front (x .ram) (plan .deed) (x .reply)
       (omega (arith, room, sent-few s (targetOf (x .ram) s (h .value .command)) (h .value)))
 
-  remembers : step s h x .remembered ≡ record { command = h .value .command; status = plan .deed .status }
-  unfolding carriedOut rememberedWith
+  remembers : step s h x .remembered ≡ remembering (x .remembered) (h .value .command) (plan .deed .status)
+  unfolding carriedOut planOf planWith
   remembers = ap (λ (y : State). y .remembered) (accepted-state s h x e)
 
   stored-there :
@@ -94,29 +98,29 @@ module _ (s : Settings) (h : Heard) (x : State) (e : refusalFor s h x ≡ 0) whe
       k < plan .deed .stored →
       getD (step s h x .ram) (placeOf (plan .deed .window) k) 0 ≡ getD (h .value .words) k 0
   unfolding planOf planWith deedOf deedWith
-  stored-there = rw after-ram (stored-stands (x .ram) s (h .value) sure)
+  stored-there = rw after-there (stored-stands (x .ram) s (h .value) sure)
 
   pointer-there : getD (step s h x .ram) (lookupPlace (s .area) (plan .deed .cell)) 0 ≡ plan .deed .after
   unfolding planOf planWith deedOf deedWith
-  pointer-there = rw after-ram (lookup-after (x .ram) s (h .value) sure)
+  pointer-there = rw after-there (lookup-after (x .ram) s (h .value) sure)
 
   descriptor-there :
       (k : ℕ) →
       k < 4 →
       getD (step s h x .ram) (stackPointer (x .ram) s + k) 0 ≡ getD (descriptorOf (plan .deed) (h .value)) k 0
   unfolding planOf planWith
-  descriptor-there = rw after-ram (entry-stands (x .ram) s (h .value) sure)
+  descriptor-there = rw after-there (entry-stands (x .ram) s (h .value) sure)
 
   others-stay : (a : ℕ) → Untouched (stepped s h x) a → getD (step s h x .ram) a 0 ≡ getD (x .ram) a 0
   unfolding planOf planWith entryOf
   others-stay a u =
       rw after-ram
       (untouched a (writesOf s plan (h .value)) (x .ram)
-      (avoids-writes s plan (h .value) a (u .stored) (u .pointer) (u .descriptor) (u .stack)))
+      (avoids-writes s plan (h .value) a (u .cell .stored) (u .cell .pointer) (u .descriptor) (u .stack)))
 
   stack-there : stackPointer (step s h x .ram) s ≡ placeOf (stackWindow (x .ram) s) 4
   unfolding planOf
-  stack-there = rw after-ram (stack-moves (x .ram) s (h .value) sure)
+  stack-there = rw after-there (stack-moves (x .ram) s (h .value) sure)
 
 pub step-worked : (s : Settings) (h : Heard) (x : State) → refusalFor s h x ≡ 0 → Worked (stepped s h x)
 unfolding acceptedWith planOf planWith
@@ -128,8 +132,7 @@ step-worked s h x e =
       interrupt = ap (λ (r : Answer). r .interrupt) a;
       answer = a;
       remembered = remembers s h x e;
-      stored = stored-there s h x e;
-      pointer = pointer-there s h x e;
+      cell = record { stored = stored-there s h x e; pointer = pointer-there s h x e };
       descriptor = descriptor-there s h x e;
       stack = stack-there s h x e;
       long = rw after-ram (length-apply (writesOf s (planFor s (h .value) x) (h .value)) (x .ram));

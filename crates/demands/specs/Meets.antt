@@ -9,6 +9,7 @@ use mathlib.Core.Path.{_≡_}
 use mathlib.Core.List.{_++_}
 use lib.ListN.{length, getD, drop}
 use Rattle.words.specs.Bits.{bitOf}
+use Rattle.words.specs.Remembered.{remembering}
 use Rattle.words.specs.Refusal.{NoneHolds}
 use Rattle.memory.specs.Map.{lookupPlace, stackPointerPlace}
 use Rattle.windows.specs.Window.{placeOf}
@@ -37,12 +38,26 @@ planned m = planFor (m .settings) (m .heard .value) (m .before)
 abbrev pub deed : Message → Deed
 deed m = planned m .deed
 
--- address a is none that the message writes to
-pub record Untouched (m : Message) (a : ℕ) : Type 0 where
+-- address a is none that the message writes to: none in its cell
+pub record CellUntouched (m : Message) (a : ℕ) : Type 0 where
   pub stored : (k : ℕ) → k < deed m .stored → a ≡ placeOf (deed m .window) k → ⊥
   pub pointer : a ≡ lookupPlace (m .settings .area) (deed m .cell) → ⊥
+
+-- and none on the stack
+pub record Untouched (m : Message) (a : ℕ) : Type 0 where
+  pub cell : CellUntouched m a
   pub descriptor : (k : ℕ) → k < 4 → a ≡ stackPointer (m .before .ram) (m .settings) + k → ⊥
   pub stack : a ≡ stackPointerPlace (m .settings .area) → ⊥
+
+-- "every word of RAM": of the cell
+pub record CellWorked (m : Message) : Type 0 where
+  -- the words stored, from the lookup pointer on, wrapping inside the window
+  pub stored :
+      (k : ℕ) →
+      k < deed m .stored →
+      getD (m .after .ram) (placeOf (deed m .window) k) 0 ≡ getD (m .heard .value .words) k 0
+  -- the lookup pointer
+  pub pointer : getD (m .after .ram) (lookupPlace (m .settings .area) (deed m .cell)) 0 ≡ deed m .after
 
 -- an accepted message
 pub record Worked (m : Message) : Type 0 where
@@ -56,14 +71,9 @@ pub record Worked (m : Message) : Type 0 where
   pub interrupt : m .answer .interrupt ≡ interruptWord (deed m .signals) (planned m .entry .wrapped)
   pub answer : m .answer ≡ acceptedWith (planned m)
   -- "the remembered state": the command and the status word
-  pub remembered : m .after .remembered ≡ record { command = m .heard .value .command; status = deed m .status }
-  -- "every word of RAM": the words stored, from the lookup pointer on, wrapping inside the window
-  pub stored :
-      (k : ℕ) →
-      k < deed m .stored →
-      getD (m .after .ram) (placeOf (deed m .window) k) 0 ≡ getD (m .heard .value .words) k 0
-  -- the lookup pointer
-  pub pointer : getD (m .after .ram) (lookupPlace (m .settings .area) (deed m .cell)) 0 ≡ deed m .after
+  pub remembered : m .after .remembered ≡ remembering (m .before .remembered) (m .heard .value .command) (deed m .status)
+  -- "every word of RAM": of the cell
+  pub cell : CellWorked m
   -- "Four stack words at the stack pointer"
   pub descriptor :
       (k : ℕ) →

@@ -43,9 +43,9 @@ pub record Demand : Type 0 where
   pub perform-bytes : (c : PerformBytes) → MessageWorked (performBytes c)
   pub perform-value : (c : PerformValue) → MessageWorked (performValue c)
   pub plan-bytes :
-      (c : PerformBytes) (p : Plan) (m : Remembered) → c .back ≡ Done p m → p ≡ planned (performBytes c)
+      (c : PerformBytes) (p : Plan) → c .back ≡ Done p → p ≡ planned (performBytes c)
   pub plan-value :
-      (c : PerformValue) (p : Plan) (m : Remembered) → c .back ≡ Done p m → p ≡ planned (performValue c)
+      (c : PerformValue) (p : Plan) → c .back ≡ Done p → p ≡ planned (performValue c)
   -- each whole record of a trace is such a message, after those before it
   pub walk : (c : Walk) → Walks (walked c)
   pub exported-message : (c : ExportedBytes) → ExportedWorked (exportedBytes c)
@@ -53,7 +53,7 @@ pub record Demand : Type 0 where
   -- a long record is such a message too; where "84-95" are zero, that of its first 80 bytes in every lent word
   pub message-from-long : (c : FromLong) → MessageWorked (fromLong c)
   pub perform-long : (c : PerformLong) → MessageWorked (performLong c)
-  pub plan-long : (c : PerformLong) (p : Plan) (m : Remembered) → c .back ≡ Done p m → p ≡ planned (performLong c)
+  pub plan-long : (c : PerformLong) (p : Plan) → c .back ≡ Done p → p ≡ planned (performLong c)
   pub exported-message-long : (c : ExportedLong) → ExportedWorked (exportedLong c)
   pub same-as-old :
       (c : FromLong) (d : FromBytes) →

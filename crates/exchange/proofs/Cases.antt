@@ -24,12 +24,13 @@ use Rattle.plan.specs.Motion.{mayMove, stride, moves, motionWith, motionOf}
 use Rattle.plan.specs.Report.{blockStatus, statusBits, statusWord}
 use Rattle.plan.specs.Deed.{signalsOf, deedWith, deedOf}
 use Rattle.plan.specs.Entry.{entryOf}
+use Rattle.words.specs.Remembered.{nothingRemembered, remembering}
 use Rattle.plan.specs.Plan.{interruptWord, planWith, planOf}
 use Rattle.writes.specs.Writes.{pointerWrites, descriptorOf, entryWrites, deedWrites, stackWrites, writesOf}
-use Rattle.writes.specs.Reply.{replyWrites, replyWords}
+use Rattle.writes.specs.Reply.{sentBehind, replyWrites, replyWords}
 use Rattle.message.specs.Tests.{cellUnsound, refusalFor}
 use Rattle.message.specs.Answer.{refusedWith, acceptedWith, answerFor}
-use Rattle.message.specs.Message.{rememberedWith, carriedOut, stateFor, answerOf, step}
+use Rattle.message.specs.Message.{carriedOut, stateFor, answerOf, step}
 use Rattle.area.specs.Area.{isRead, cellNumbered, isUnsound, orElse, lowest, lowestUnsound, areaRefusal, checkArea}
 use Rattle.message.specs.Run.{run, effectOf, effects}
 use Rattle.exchange.specs.Order.{swapAt, exchangeAll}
@@ -47,7 +48,7 @@ order words numbers sends interrupts command status =
       numbers = numbers;
       sends = sends;
       interrupts = interrupts;
-      remembered = record { command = command; status = status };
+      remembered = remembering nothingRemembered command status;
     }
 
 -- the first eight words of the block and the last four; what each sends; interrupt words; what is remembered
@@ -57,7 +58,7 @@ says first last sends interrupts command status =
       stack = first ++ last;
       sends = sends;
       interrupts = interrupts;
-      remembered = record { command = command; status = status };
+      remembered = remembering nothingRemembered command status;
     }
 
 abbrev pub none : List ℕ
@@ -175,5 +176,5 @@ expected =
     ∷ []
 
 pub computed : map seen cases ≡ expected
-unfolding bitsOf wordCount isModeSubaddress stackSizeListed settingsRefused isOwn isBroadcast isNotOurs hasBroadcastCells firstOf transferFails breaksTransfer lastsZero keepsLayout expectedWords faultsOf faultsFor anyFault ramRefused stackPointerPlace lookupTable busyPlace isBusyAt illegalPlace isIllegalAt cellNumber kindOf applyWrites writesTo runFrom aligned placeOf rollsOver meets meetsFixed controlPart pickScheme lookupAt cellFrom cellAt windowOf doubleFits soundCell stackPointer stackWindow stackSound cellFor isIllegal isBusy targetOf withheld wordsStored wordsSent actWith actOf mayMove stride moves motionWith motionOf blockStatus statusBits statusWord signalsOf deedWith deedOf entryOf interruptWord planWith planOf pointerWrites descriptorOf entryWrites deedWrites stackWrites writesOf replyWrites replyWords cellUnsound refusalFor refusedWith acceptedWith answerFor rememberedWith carriedOut stateFor answerOf step kindNumbered programSettings isRead cellNumbered isUnsound orElse lowest lowestUnsound areaRefusal checkArea run effectOf effects swapAt exchangeAll wellFormed allWellFormed mayExchange allowedAt allowedAll withoutWrap withoutStackRollover rememberedLast entriesOn lastOf stackWord keptAfter stackAfter rememberedAfter startsWell takesWell asked plainRam startOf orderOf saidOf seen
+unfolding bitsOf wordCount isModeSubaddress stackSizeListed settingsRefused isOwn isBroadcast isNotOurs hasBroadcastCells firstOf transferFails breaksTransfer lastsZero keepsLayout expectedWords faultsOf faultsFor anyFault ramRefused stackPointerPlace lookupTable busyPlace isBusyAt illegalPlace isIllegalAt cellNumber kindOf applyWrites writesTo runFrom aligned placeOf rollsOver meets meetsFixed controlPart pickScheme lookupAt cellFrom cellAt windowOf doubleFits soundCell stackPointer stackWindow stackSound cellFor isIllegal isBusy targetOf withheld wordsStored wordsSent actWith actOf mayMove stride moves motionWith motionOf blockStatus statusBits statusWord signalsOf deedWith deedOf entryOf interruptWord planWith planOf pointerWrites descriptorOf entryWrites deedWrites stackWrites writesOf sentBehind replyWrites replyWords cellUnsound refusalFor refusedWith acceptedWith answerFor carriedOut stateFor answerOf step kindNumbered programSettings isRead cellNumbered isUnsound orElse lowest lowestUnsound areaRefusal checkArea run effectOf effects swapAt exchangeAll wellFormed allWellFormed mayExchange allowedAt allowedAll withoutWrap withoutStackRollover rememberedLast entriesOn lastOf stackWord keptAfter stackAfter rememberedAfter startsWell takesWell asked plainRam startOf orderOf saidOf seen
 computed = refl

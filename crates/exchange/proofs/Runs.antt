@@ -46,7 +46,7 @@ pub run-remembers :
     Good s x →
     AllFormed s vs →
     0 < length vs →
-    run s vs x .remembered ≡ rememberedLast vs (effects s vs x)
+    run s vs x .remembered ≡ rememberedLast (x .remembered) vs (effects s vs x)
 unfolding run effects rememberedLast acceptedWith planWith
 run-remembers s [] x g f l = absurd (omega arith)
 run-remembers s (v ∷ []) x g f l =

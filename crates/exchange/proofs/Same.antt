@@ -23,11 +23,13 @@ use Rattle.memory.proofs.Numbers.{number-below}
 use Rattle.memory.proofs.Places.{lookup-between, control-between, stack-pointer-between, busy-between, illegal-between}
 use Rattle.plan.specs.declared.deed.Deed.{Deed}
 use Rattle.lookup.specs.Target.{cellFor, isIllegal, isBusy, targetOf}
+use Rattle.plan.specs.Plan.{planWith}
 use Rattle.plan.specs.Entry.{entryOf}
 use Rattle.writes.specs.Writes.{deedWrites}
 use Rattle.memory.specs.Writes.{writesTo}
 use Rattle.writes.specs.Reply.{replyWrites, replyWords}
 use Rattle.message.specs.Heard.{Heard}
+use Rattle.message.specs.Answer.{acceptedWith}
 use Rattle.memory.specs.State.{State}
 use Rattle.message.specs.Message.{step}
 use Rattle.message.specs.Run.{run, effectOf, effects}
@@ -133,15 +135,17 @@ module _
         rw (deed-window m s (v .value)) (e .words (placeOf (targetOf m s (v .value .command) .window) k) (window-off k)))
         ∙ rw aim-same
 
-    plan-same : madePlan m s (v .value) ≡ madePlan n s (v .value)
-    unfolding entryOf
-    plan-same = rw (aim-same, pointers-same, block-same)
+    -- what was remembered plays no part in the answer
+    answer-same :
+        acceptedWith (madePlan m s (x .remembered) (v .value)) ≡ acceptedWith (madePlan n s (y .remembered) (v .value))
+    unfolding acceptedWith planWith entryOf
+    answer-same = rw (aim-same, pointers-same, block-same)
 
     pub effect-same : effectOf s v x ≡ effectOf s v y
     effect-same =
         let p = done s v x g f .effect in
         let q = done s v y h f .effect in
-        rw (p, q, plan-same, reads-same, aim-same)
+        rw (p, q, answer-same, reads-same, aim-same)
 
     pub step-same : Alike (Outside (stackWindow m s)) (step s v x .ram) (step s v y .ram)
     unfolding stackPointer

@@ -17,6 +17,7 @@ use Rattle.plan.specs.declared.deed.Deed.{Deed}
 use Rattle.plan.specs.declared.deed.Signals.{Signals}
 use Rattle.plan.specs.declared.entry.Entry.{Entry}
 use Rattle.plan.specs.Entry.{entryOf}
+use Rattle.words.specs.Remembered.{nothingRemembered}
 use Rattle.plan.specs.Plan.{interruptWord, planWith}
 use Rattle.plan.proofs.Interrupt.{interrupt-sum}
 use Rattle.writes.specs.Writes.{deedWrites, descriptorOf}
@@ -54,7 +55,7 @@ unwrapped = record { pointer = 0; after = 0; wrapped = false }
 
 -- what a message shows but for this bit, by its deed and the words that it sends
 abbrev shows : Deed → List ℕ → Record → Effect
-shows d words v = record { answer = acceptedWith (planWith d unwrapped); sends = words; descriptor = descriptorOf d v }
+shows d words v = record { answer = acceptedWith (planWith d unwrapped nothingRemembered); sends = words; descriptor = descriptorOf d v }
 
 shows-without-rollover :
     (s : Settings) (v : Heard) (x : State) →

@@ -18,6 +18,7 @@ use Rattle.cells.proofs.Sound.{cell-facts-sound}
 use Rattle.cells.proofs.Block.{stack-facts-sound}
 use Rattle.area.proofs.Whole.{AreaFine}
 use Rattle.lookup.specs.Target.{cellFor, targetOf}
+use Rattle.words.specs.Remembered.{remembering}
 use Rattle.plan.specs.Plan.{planWith}
 use Rattle.writes.specs.Writes.{descriptorOf}
 use Rattle.writes.specs.Reply.{replyWrites, replyWords}
@@ -25,11 +26,11 @@ use Rattle.writes.proofs.Replied.{reply-front, sent-few}
 use Rattle.message.specs.Heard.{Heard}
 use Rattle.message.specs.Tests.{cellUnsound, refusalFor}
 use Rattle.message.specs.Answer.{acceptedWith}
-use Rattle.message.specs.Message.{rememberedWith, carriedOut, step}
+use Rattle.message.specs.Message.{carriedOut, step}
 use Rattle.message.specs.Run.{effectOf}
 use Rattle.message.proofs.Sure.{Sure, fine-sure}
 use Rattle.message.proofs.Refusals.{accepted-answer, accepted-state}
-use Rattle.message.proofs.Step.{afterMessage, deedFor, madePlan, plan-made}
+use Rattle.message.proofs.Step.{afterMessage, deedFor, madePlan, plan-made, deed-made, after-made}
 use Rattle.message.proofs.Kept.{Kept, message-keeps, fine-kept}
 use Rattle.exchange.specs.Condition.{wellFormed, allWellFormed}
 use Rattle.exchange.specs.After.{overFront}
@@ -77,11 +78,11 @@ pub record Done (s : Settings) (v : Heard) (x : State) : Type 0 where
   pub reply : step s v x .reply ≡ overFront (replyWords (x .ram) (deedFor (x .ram) s (v .value))) (x .reply)
   pub long : length (step s v x .reply) ≡ length (x .reply)
   pub remembered :
-      step s v x .remembered ≡ record { command = v .value .command; status = deedFor (x .ram) s (v .value) .status }
+      step s v x .remembered ≡ remembering (x .remembered) (v .value .command) (deedFor (x .ram) s (v .value) .status)
   pub effect :
       effectOf s v x
       ≡ record {
-        answer = acceptedWith (madePlan (x .ram) s (v .value));
+        answer = acceptedWith (madePlan (x .ram) s (x .remembered) (v .value));
         sends = replyWords (x .ram) (deedFor (x .ram) s (v .value));
         descriptor = descriptorOf (deedFor (x .ram) s (v .value)) (v .value);
       }
@@ -108,18 +109,19 @@ module _ (s : Settings) (v : Heard) (x : State) (g : Good s x) (f : Formed s v) 
       )
 
   pub done : Done s v x
-  unfolding effectOf carriedOut rememberedWith planWith overFront
+  unfolding effectOf carriedOut planWith overFront
   done =
       let d = deedFor (x .ram) s (v .value) in
       let e = accepted-state s v x not-refused in
       let p = plan-made s (x .ram) (x .remembered) (v .value) in
+      let d-made = deed-made s (x .ram) (x .remembered) (v .value) in
       record {
-        ram = rw (e, p);
+        ram = rw (e, after-made s (x .ram) (x .remembered) (v .value));
         reply =
-            rw (e, p)
+            rw (e, d-made)
             (reply-front (x .ram) d (x .reply)
             (omega (arith, sent-few s (targetOf (x .ram) s (v .value .command)) (v .value), g .room)));
-        long = rw (e, p) (length-apply (replyWrites (x .ram) d) (x .reply));
+        long = rw (e, d-made) (length-apply (replyWrites (x .ram) d) (x .reply));
         remembered = rw (e, p);
         effect = rw (accepted-answer s v x not-refused, eq-eqb (refusalFor s v x) 0 not-refused, p);
       }

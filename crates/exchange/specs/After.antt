@@ -4,6 +4,7 @@ use mathlib.Core.List.{List, [], _∷_, _++_, map}
 use lib.ListN.{length, getD, drop}
 use Rattle.words.specs.declared.settings.Settings.{Settings}
 use Rattle.words.specs.declared.remembered.Remembered.{Remembered}
+use Rattle.words.specs.Remembered.{remembering}
 use Rattle.cells.specs.Stack.{stackWindow}
 use Rattle.memory.specs.State.{State}
 use Rattle.message.specs.Heard.{Heard}
@@ -25,14 +26,14 @@ stackAfter s x hs places j =
 abbrev pub lastWord : List ℕ → ℕ
 lastWord ws = getD ws (length ws - 1) 0
 
--- what the last message leaves to be remembered
-unfoldable pub rememberedLast : List Heard → List Effect → Remembered
-rememberedLast hs es =
-    record { command = lastWord (map (λ h. h .value .command) hs); status = lastWord (map (λ e. e .answer .status) es) }
+-- what the last message leaves to be remembered, over what was before
+unfoldable pub rememberedLast : Remembered → List Heard → List Effect → Remembered
+rememberedLast before hs es =
+    remembering before (lastWord (map (λ h. h .value .command) hs)) (lastWord (map (λ e. e .answer .status) es))
 
 -- "the remembered command and status are the new last message's."
 unfoldable pub rememberedAfter : Settings → State → List Heard → List ℕ → Remembered
-rememberedAfter s x hs places = rememberedLast (exchangeAll places hs) (effects s (exchangeAll places hs) x)
+rememberedAfter s x hs places = rememberedLast (x .remembered) (exchangeAll places hs) (effects s (exchangeAll places hs) x)
 
 -- words put over the front of a buffer: "its other words keep their contents"
 unfoldable pub overFront : List ℕ → List ℕ → List ℕ

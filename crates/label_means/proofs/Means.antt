@@ -30,12 +30,11 @@ use Rattle.label.proofs.Shared.{Shares}
 use Rattle.label.proofs.Answers.{Marked, marked-shares, writes-exactly}
 use Rattle.lookup.specs.Target.{cellFor, targetOf}
 use Rattle.plan.specs.Deed.{deedWith, deedOf}
-use Rattle.plan.specs.Plan.{planWith}
 use Rattle.message.specs.Heard.{Heard}
 use Rattle.message.specs.Tests.{testsFor, refusalFor}
 use Rattle.message.specs.Message.{planFor}
 use Rattle.message.proofs.Sure.{Sure, accepted-sure}
-use Rattle.message.proofs.Step.{deedFor, plan-made, deed-window, target-some, stored-none}
+use Rattle.message.proofs.Step.{deedFor, deed-made, deed-window, target-some, stored-none}
 use Rattle.label_means.specs.Means.{StoresAt, InWindow, NamesWriter, LabelMeans}
 
 -- only a transmit command uses a transmit cell
@@ -59,16 +58,14 @@ module _ (s : Settings) (h : Heard) (x : State) (e : refusalFor s h x ≡ 0) whe
 
   -- the plan's cell, window and words are those of the command's cell
   plan-cell : planFor s (h .value) x .deed .cell ≡ number
-  unfolding planWith deedOf deedWith targetOf
-  plan-cell = rw (plan-made s ram (x .remembered) (h .value))
+  unfolding deedOf deedWith targetOf
+  plan-cell = rw (deed-made s ram (x .remembered) (h .value))
 
   plan-window : planFor s (h .value) x .deed .window ≡ targetOf ram s command .window
-  unfolding planWith
-  plan-window = rw (plan-made s ram (x .remembered) (h .value)) (deed-window ram s (h .value))
+  plan-window = rw (deed-made s ram (x .remembered) (h .value)) (deed-window ram s (h .value))
 
   plan-stored : planFor s (h .value) x .deed .stored ≡ deedFor ram s (h .value) .stored
-  unfolding planWith
-  plan-stored = rw (plan-made s ram (x .remembered) (h .value))
+  plan-stored = rw (deed-made s ram (x .remembered) (h .value))
 
   own-cell : cellNumbered ram s number ≡ cellFor ram s command
   unfolding cellFor

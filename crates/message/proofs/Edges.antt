@@ -23,12 +23,12 @@ use Rattle.plan.specs.Deed.{signalsOf, deedWith, deedOf}
 use Rattle.plan.specs.Entry.{entryOf}
 use Rattle.plan.specs.Plan.{interruptWord, planWith, planOf}
 use Rattle.writes.specs.Writes.{pointerWrites, descriptorOf, entryWrites, deedWrites, stackWrites, writesOf}
-use Rattle.writes.specs.Reply.{replyWrites, replyWords}
+use Rattle.writes.specs.Reply.{sentBehind, replyWrites, replyWords}
 use Rattle.message.specs.Tests.{cellUnsound, refusalFor}
 use Rattle.message.specs.Answer.{refusedWith, acceptedWith, answerFor}
-use Rattle.message.specs.Message.{rememberedWith, carriedOut, stateFor, answerOf, step}
+use Rattle.message.specs.Message.{carriedOut, stateFor, answerOf, step}
 use Rattle.message.specs.Edges.{runCase, cases, expected}
 
 pub edges : map runCase cases ≡ expected
-unfolding bitsOf wordCount isModeSubaddress stackSizeListed settingsRefused isOwn isBroadcast isNotOurs fillFrom firstOf transferFails breaksTransfer lastsZero keepsLayout expectedWords faultsOf faultsFor anyFault ramRefused stackPointerPlace lookupTable busyPlace isBusyAt illegalPlace isIllegalAt cellNumber kindOf applyWrites writesTo runFrom aligned placeOf rollsOver meets meetsFixed controlPart pickScheme lookupAt cellFrom cellAt windowOf doubleFits soundCell stackPointer stackWindow stackSound cellFor isIllegal isBusy targetOf withheld wordsStored wordsSent actWith actOf mayMove stride moves motionWith motionOf blockStatus statusBits statusWord signalsOf deedWith deedOf entryOf interruptWord planWith planOf pointerWrites descriptorOf entryWrites deedWrites stackWrites writesOf replyWrites replyWords cellUnsound refusalFor refusedWith acceptedWith answerFor rememberedWith carriedOut stateFor answerOf step runCase cases expected
+unfolding bitsOf wordCount isModeSubaddress stackSizeListed settingsRefused isOwn isBroadcast isNotOurs fillFrom firstOf transferFails breaksTransfer lastsZero keepsLayout expectedWords faultsOf faultsFor anyFault ramRefused stackPointerPlace lookupTable busyPlace isBusyAt illegalPlace isIllegalAt cellNumber kindOf applyWrites writesTo runFrom aligned placeOf rollsOver meets meetsFixed controlPart pickScheme lookupAt cellFrom cellAt windowOf doubleFits soundCell stackPointer stackWindow stackSound cellFor isIllegal isBusy targetOf withheld wordsStored wordsSent actWith actOf mayMove stride moves motionWith motionOf blockStatus statusBits statusWord signalsOf deedWith deedOf entryOf interruptWord planWith planOf pointerWrites descriptorOf entryWrites deedWrites stackWrites writesOf sentBehind replyWrites replyWords cellUnsound refusalFor refusedWith acceptedWith answerFor carriedOut stateFor answerOf step runCase cases expected
 edges = refl

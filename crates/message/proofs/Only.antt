@@ -16,13 +16,12 @@ use Rattle.memory.specs.State.{State}
 use Rattle.cells.specs.Stack.{stackWindow}
 use Rattle.windows.proofs.Meets.{Outside}
 use Rattle.lookup.specs.Target.{targetOf}
-use Rattle.plan.specs.Plan.{planWith}
 use Rattle.writes.specs.Reply.{replyWords}
 use Rattle.message.specs.Heard.{Heard}
 use Rattle.message.specs.Tests.{testsFor, refusalFor}
 use Rattle.message.specs.Message.{carriedOut, step}
 use Rattle.message.proofs.Sure.{accepted-sure}
-use Rattle.message.proofs.Step.{plan-made, elsewhere, deedFor}
+use Rattle.message.proofs.Step.{after-made, deed-made, elsewhere, deedFor}
 use Rattle.message.proofs.Kept.{Kept, message-keeps, nothing-changed}
 use Rattle.message.proofs.Refusals.{accepted-state, refused-state}
 use Rattle.writes.proofs.Replied.{reply-behind, sent-few}
@@ -43,7 +42,7 @@ module _ (s : Settings) (h : Heard) (x : State) where
   only-these a o =
       ⊎-elim
       (λ (e : refusalFor s h x ≡ 0).
-      rw (accepted-state s h x e, plan-made s ram (x .remembered) (h .value))
+      rw (accepted-state s h x e, after-made s ram (x .remembered) (h .value))
       (elsewhere ram s (h .value) (accepted-sure s h x e) a (o .lookup) (inr (o .window)) (o .stack) (o .pointer)))
       (λ (n : refusalFor s h x ≡ 0 → ⊥). rw (refused-state s h x n))
       (eq-or-ne (refusalFor s h x) 0)
@@ -53,7 +52,7 @@ module _ (s : Settings) (h : Heard) (x : State) where
   all-kept =
       ⊎-elim
       (λ (e : refusalFor s h x ≡ 0).
-      rw (accepted-state s h x e, plan-made s ram (x .remembered) (h .value))
+      rw (accepted-state s h x e, after-made s ram (x .remembered) (h .value))
       (message-keeps ram s (h .value) (accepted-sure s h x e)))
       (λ (n : refusalFor s h x ≡ 0 → ⊥). rw (refused-state s h x n) (nothing-changed s ram))
       (eq-or-ne (refusalFor s h x) 0)
@@ -62,12 +61,12 @@ module _ (s : Settings) (h : Heard) (x : State) where
       (i : ℕ) →
       length (replyWords ram (deedFor ram s (h .value))) ≤ i →
       getD (step s h x .reply) i 0 ≡ getD (x .reply) i 0
-  unfolding carriedOut refusalFor planWith
+  unfolding carriedOut refusalFor
   only-front i l =
       ⊎-elim
       (λ (e : refusalFor s h x ≡ 0).
       let room = ltb-false (length (x .reply)) 33 (accepted (testsFor s h x) refl e replyRoom) in
-      rw (accepted-state s h x e, plan-made s ram (x .remembered) (h .value))
+      rw (accepted-state s h x e, deed-made s ram (x .remembered) (h .value))
       (reply-behind ram (deedFor ram s (h .value)) (x .reply)
       (omega (arith, room, sent-few s (targetOf ram s (h .value .command)) (h .value)))
       i

@@ -29,7 +29,8 @@ use Rattle.plan.specs.Act.{wordsStored, actWith, actOf}
 use Rattle.plan.specs.Motion.{motionWith, motionOf}
 use Rattle.words.specs.declared.remembered.Remembered.{Remembered}
 use Rattle.plan.specs.declared.plan.Plan.{Plan}
-use Rattle.plan.specs.Plan.{planWith, planOf}
+use Rattle.words.specs.Remembered.{nothingRemembered}
+use Rattle.plan.specs.Plan.{planWith, planFrom, planOf}
 use Rattle.plan.specs.Deed.{deedWith, deedOf}
 use Rattle.plan.specs.Entry.{entryOf}
 use Rattle.plan.proofs.Reach.{deed-stored}
@@ -41,33 +42,47 @@ use Rattle.memory.proofs.Writes.{apply-append, length-apply}
 use Rattle.memory.proofs.Footprint.{Avoids, untouched, avoids-append, avoids-places, written}
 use Rattle.message.proofs.Sure.{Sure}
 
--- the plan of a data message: what is remembered plays no part in it
+-- the deed of a data message: what is remembered plays no part in it
 abbrev pub deedFor : List ℕ → Settings → Record → Deed
 deedFor ram s v = deedOf s (targetOf ram s (v .command)) v
 
-abbrev pub madePlan : List ℕ → Settings → Record → Plan
-madePlan ram s v = planWith (deedFor ram s v) (entryOf ram s)
+abbrev pub madePlan : List ℕ → Settings → Remembered → Record → Plan
+madePlan ram s before v = planFrom before v (deedFor ram s v) (entryOf ram s)
 
 pub plan-made :
-    (s : Settings) (ram : List ℕ) (remembered : Remembered) (v : Record) → planOf s ram remembered v ≡ madePlan ram s v
+    (s : Settings) (ram : List ℕ) (before : Remembered) (v : Record) → planOf s ram before v ≡ madePlan ram s before v
 unfolding planOf
-plan-made s ram remembered v = refl
+plan-made s ram before v = refl
 
--- RAM after an accepted message, and after its deed alone
+pub deed-made :
+    (s : Settings) (ram : List ℕ) (before : Remembered) (v : Record) → planOf s ram before v .deed ≡ deedFor ram s v
+unfolding planOf planWith
+deed-made s ram before v = refl
+
+-- RAM after an accepted message, and after its deed alone; it is the same whatever was remembered
+abbrev aPlan : List ℕ → Settings → Record → Plan
+aPlan ram s v = madePlan ram s nothingRemembered v
+
 abbrev pub afterMessage : List ℕ → Settings → Record → List ℕ
-afterMessage ram s v = applyWrites (writesOf s (madePlan ram s v) v) ram
+afterMessage ram s v = applyWrites (writesOf s (aPlan ram s v) v) ram
+
+pub after-made :
+    (s : Settings) (ram : List ℕ) (before : Remembered) (v : Record) →
+    applyWrites (writesOf s (planOf s ram before v) v) ram ≡ afterMessage ram s v
+unfolding planOf planWith writesOf stackWrites
+after-made s ram before v = refl
 
 abbrev pub afterDeed : List ℕ → Settings → Record → List ℕ
 afterDeed ram s v = applyWrites (deedWrites s (deedFor ram s v) v) ram
 
 module _ (ram : List ℕ) (s : Settings) (v : Record) where
   after-parts :
-      afterMessage ram s v ≡ applyWrites (stackWrites s (madePlan ram s v) v) (afterDeed ram s v)
+      afterMessage ram s v ≡ applyWrites (stackWrites s (aPlan ram s v) v) (afterDeed ram s v)
   unfolding writesOf planWith
-  after-parts = apply-append (deedWrites s (deedFor ram s v) v) (stackWrites s (madePlan ram s v) v) ram
+  after-parts = apply-append (deedWrites s (deedFor ram s v) v) (stackWrites s (aPlan ram s v) v) ram
 
   pub after-length : length (afterMessage ram s v) ≡ length ram
-  after-length = length-apply (writesOf s (madePlan ram s v) v) ram
+  after-length = length-apply (writesOf s (aPlan ram s v) v) ram
 
   pub deed-length : length (afterDeed ram s v) ≡ length ram
   deed-length = length-apply (deedWrites s (deedFor ram s v) v) ram
@@ -143,7 +158,7 @@ module _ (ram : List ℕ) (s : Settings) (v : Record) where
         (a : ℕ) →
         Outside (stackWindow ram s) a →
         (a ≡ stackPointerPlace (s .area) → ⊥) →
-        Avoids a (stackWrites s (madePlan ram s v) v)
+        Avoids a (stackWrites s (aPlan ram s v) v)
     unfolding stackWrites entryWrites planWith entryOf
     entry-avoids a h p =
         avoids-append a (entryWrites (entryOf ram s) (descriptorOf (deedFor ram s v) v)) (stackPointerWrites s (entryOf ram s))
@@ -160,7 +175,7 @@ module _ (ram : List ℕ) (s : Settings) (v : Record) where
         (a ≡ stackPointerPlace (s .area) → ⊥) →
         getD (afterMessage ram s v) a 0 ≡ getD (afterDeed ram s v) a 0
     beyond-stack a h p =
-        rw after-parts (untouched a (stackWrites s (madePlan ram s v) v) (afterDeed ram s v) (entry-avoids a h p))
+        rw after-parts (untouched a (stackWrites s (aPlan ram s v) v) (afterDeed ram s v) (entry-avoids a h p))
 
     -- so every word that is none of these stays
     pub elsewhere :
@@ -306,7 +321,7 @@ module _ (ram : List ℕ) (s : Settings) (v : Record) where
         let e = entryOf ram s in
         let d = descriptorOf (deedFor ram s v) v in
         rw after-parts
-        (untouched a (stackWrites s (madePlan ram s v) v) (afterDeed ram s v)
+        (untouched a (stackWrites s (aPlan ram s v) v) (afterDeed ram s v)
         (avoids-append a (entryWrites e d) (stackPointerWrites s e)
         (avoids-places a (λ k. stackPointer ram s + k) (λ k. getD d k 0) 4 n)
         (λ q. ordinary-not-stack-pointer (length ram) a o (s .area) (sym q), tt))

@@ -9,7 +9,7 @@ use Rattle.words.specs.declared.settings.Settings.{Settings}
 use Rattle.words.specs.declared.remembered.Remembered.{Remembered}
 use Rattle.words.specs.Command.{subaddressOf, countField}
 use Rattle.words.specs.Settings.{isOwn, plainSettings}
-use Rattle.words.specs.Remembered.{nothingRemembered}
+use Rattle.words.specs.Remembered.{nothingRemembered, remembering}
 use Rattle.records.specs.Value.{zeroWords}
 use Rattle.words.specs.Fill.{fill}
 use Rattle.memory.specs.Map.{illegalPlace, busyPlace}
@@ -159,7 +159,7 @@ expected =
     -- P1
     record {
       answer = done 0x8080 0x47E 0x402 0x2800 true 0x403;
-      remembered = record { command = 0x2864; status = 0x2800 };
+      remembered = remembering nothingRemembered 0x2864 0x2800;
       sends = 0x2800 ∷ [];
       writes = put 0x47E 1 ∷ put 0x47F 2 ∷ put 0x400 3 ∷ put 0x401 4 ∷ put 0x143 0x402 ∷ entry 0x8080 0x47E 0x2864;
       expects = 4;
@@ -169,7 +169,7 @@ expected =
     -- P2
     ∷ record {
       answer = done 0x8080 0x47C 0x400 0x2800 true 0x403;
-      remembered = record { command = 0x2864; status = 0x2800 };
+      remembered = remembering nothingRemembered 0x2864 0x2800;
       sends = 0x2800 ∷ [];
       writes = put 0x47C 1 ∷ put 0x47D 2 ∷ put 0x47E 3 ∷ put 0x47F 4 ∷ put 0x143 0x400 ∷ entry 0x8080 0x47C 0x2864;
       expects = 4;
@@ -179,7 +179,7 @@ expected =
     -- P3
     ∷ record {
       answer = done 0x8000 0x47B 0x47F 0x2800 true 0x3;
-      remembered = record { command = 0x2864; status = 0x2800 };
+      remembered = remembering nothingRemembered 0x2864 0x2800;
       sends = 0x2800 ∷ [];
       writes = put 0x47B 1 ∷ put 0x47C 2 ∷ put 0x47D 3 ∷ put 0x47E 4 ∷ put 0x143 0x47F ∷ entry 0x8000 0x47B 0x2864;
       expects = 4;
@@ -189,7 +189,7 @@ expected =
     -- P4
     ∷ record {
       answer = done 0x9420 0x47E 0x47E 0x2C00 false 0x13;
-      remembered = record { command = 0x2864; status = 0x2C00 };
+      remembered = remembering nothingRemembered 0x2864 0x2C00;
       sends = [];
       writes = put 0x47E 1 ∷ put 0x47F 2 ∷ entry 0x9420 0x47E 0x2864;
       expects = 4;
@@ -199,7 +199,7 @@ expected =
     -- P5
     ∷ record {
       answer = done 0x94A0 0x47E 0x400 0x2C00 false 0x413;
-      remembered = record { command = 0x2864; status = 0x2C00 };
+      remembered = remembering nothingRemembered 0x2864 0x2C00;
       sends = [];
       writes = put 0x47E 1 ∷ put 0x47F 2 ∷ put 0x143 0x400 ∷ entry 0x94A0 0x47E 0x2864;
       expects = 4;
@@ -209,7 +209,7 @@ expected =
     -- P6
     ∷ record {
       answer = done 0x9408 0x47E 0x47E 0x2C00 false 0x13;
-      remembered = record { command = 0x2864; status = 0x2C00 };
+      remembered = remembering nothingRemembered 0x2864 0x2C00;
       sends = [];
       writes = put 0x47E 1 ∷ put 0x47F 2 ∷ entry 0x9408 0x47E 0x2864;
       expects = 4;
@@ -219,7 +219,7 @@ expected =
     -- P7
     ∷ record {
       answer = done 0x8000 0x420 0x400 0x2800 true 0x3;
-      remembered = record { command = 0x2864; status = 0x2800 };
+      remembered = remembering nothingRemembered 0x2864 0x2800;
       sends = 0x2800 ∷ [];
       writes = put 0x420 1 ∷ put 0x421 2 ∷ put 0x422 3 ∷ put 0x423 4 ∷ put 0x143 0x400 ∷ entry 0x8000 0x420 0x2864;
       expects = 4;
@@ -229,7 +229,7 @@ expected =
     -- P8
     ∷ record {
       answer = done 0x9420 0x420 0x420 0x2C00 false 0x13;
-      remembered = record { command = 0x2864; status = 0x2C00 };
+      remembered = remembering nothingRemembered 0x2864 0x2C00;
       sends = [];
       writes = put 0x420 1 ∷ put 0x421 2 ∷ put 0x422 3 ∷ entry 0x9420 0x420 0x2864;
       expects = 4;
@@ -239,7 +239,7 @@ expected =
     -- P9
     ∷ record {
       answer = done 0x8080 0x47E 0x41E 0x2800 true 0x403;
-      remembered = record { command = 0x2860; status = 0x2800 };
+      remembered = remembering nothingRemembered 0x2860 0x2800;
       sends = 0x2800 ∷ [];
       writes =
           put 0x47E 1 ∷ put 0x47F 2 ∷ (writesTo (λ k. 0x400 + k) (λ k. 3 + k) 30 ++ (put 0x143 0x41E ∷ entry 0x8080 0x47E 0x2860));
@@ -250,7 +250,7 @@ expected =
     -- P10
     ∷ record {
       answer = done 0x80C0 0x47E 0x402 0x2C00 true 0x4403;
-      remembered = record { command = 0x2864; status = 0x2C00 };
+      remembered = remembering nothingRemembered 0x2864 0x2C00;
       sends = 0x2C00 ∷ [];
       writes = put 0x47E 1 ∷ put 0x47F 2 ∷ put 0x400 3 ∷ put 0x401 4 ∷ put 0x143 0x402 ∷ entry 0x80C0 0x47E 0x2864;
       expects = 4;
@@ -260,7 +260,7 @@ expected =
     -- P11
     ∷ record {
       answer = done 0x8080 0x47E 0x402 0x2808 true 0x403;
-      remembered = record { command = 0x2864; status = 0x2808 };
+      remembered = remembering nothingRemembered 0x2864 0x2808;
       sends = 0x2808 ∷ [];
       writes = put 0x47E 1 ∷ put 0x47F 2 ∷ put 0x400 3 ∷ put 0x401 4 ∷ put 0x143 0x402 ∷ entry 0x8080 0x47E 0x2864;
       expects = 4;
@@ -270,7 +270,7 @@ expected =
     -- P12
     ∷ record {
       answer = done 0x8080 0x47E 0x402 0x2810 false 0x403;
-      remembered = record { command = 0xF864; status = 0x2810 };
+      remembered = remembering nothingRemembered 0xF864 0x2810;
       sends = [];
       writes = put 0x47E 1 ∷ put 0x47F 2 ∷ put 0x400 3 ∷ put 0x401 4 ∷ put 0x143 0x402 ∷ entry 0x8080 0x47E 0xF864;
       expects = 4;

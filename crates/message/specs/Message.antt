@@ -5,7 +5,6 @@ use mathlib.Core.Bool.{cond}
 use lib.Dec.{eqb}
 use Rattle.records.specs.declared.value.Record.{Record}
 use Rattle.words.specs.declared.settings.Settings.{Settings}
-use Rattle.words.specs.declared.remembered.Remembered.{Remembered}
 use Rattle.memory.specs.State.{State}
 use Rattle.memory.specs.Writes.{applyWrites}
 use Rattle.plan.specs.declared.plan.Plan.{Plan}
@@ -21,17 +20,13 @@ use Rattle.message.specs.Answer.{answerFor}
 abbrev pub planFor : Settings → Record → State → Plan
 planFor s v x = planOf s (x .ram) (x .remembered) v
 
--- "It and the command are remembered after every accepted message"
-unfoldable pub rememberedWith : Plan → Record → Remembered
-rememberedWith p v = record { command = v .command; status = p .deed .status }
-
 -- a plan carried out
 unfoldable pub carriedOut : Settings → Plan → Record → State → State
 carriedOut s p v x =
     record {
       ram = applyWrites (writesOf s p v) (x .ram);
       reply = applyWrites (replyWrites (x .ram) (p .deed)) (x .reply);
-      remembered = rememberedWith p v;
+      remembered = p .remembered;
     }
 
 -- by the number that the tests gave; of a refusal, "RAM, reply and remembered state keep their contents"

@@ -5,4 +5,5 @@ pub mod heard;
 pub mod long;
 pub mod perform;
 pub mod serve;
+pub mod tested;
 pub mod tests;

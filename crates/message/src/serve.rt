@@ -26,8 +26,9 @@ pub(crate) fn tell(performed: Performed, before: Remembered) -> Outcome
                 remembered: before,
             }
         }
-        Performed::Done(plan, remembered) => {
+        Performed::Done(plan) => {
             let answer = accepted_with(plan);
+            let remembered = plan.remembered;
             Outcome { answer, remembered }
         }
     }

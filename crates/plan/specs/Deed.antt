@@ -40,8 +40,12 @@ deedWith s t v a m =
       moves = m .moves;
       after = m .after;
       «block_status» = blockStatus (onBusB v) (isTransfer v) (a .faults) (m .rollover) (t .illegal);
+      -- "lookup pointer before the message"
+      third = t .cell .pointer;
       status = statusWord s t (a .valid);
       answered = a .valid && not (t .broadcast);
+      -- a transmit's words are those of its window
+      «sends_third» = false;
       signals = signalsOf t a m;
     }
 

@@ -42,9 +42,13 @@ pub struct Deed {
     pub moves: bool,
     pub after: u16,
     pub block_status: u16,
+    // the descriptor's third word: the lookup pointer before the message
+    pub third: u16,
     pub status: u16,
     // whether the status is sent: RT 0's clean status is 0000, so "none" has a mark of its own
     pub answered: bool,
+    // whether the one word behind the status is the third word, and not the window's
+    pub sends_third: bool,
     pub signals: Signals,
 }
 
@@ -76,8 +80,10 @@ fn deed_with(s: Settings, t: Target, v: Record, a: Act, m: Motion) -> Deed
             m.rollover,
             t.illegal,
         ),
+        third: c.pointer,
         status: status_word(s, t, a.valid),
         answered: both(a.valid, no(t.broadcast)),
+        sends_third: false,
         signals: Signals {
             illegal,
             rollover: rolled,

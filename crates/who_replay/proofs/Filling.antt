@@ -5,7 +5,6 @@ use mathlib.Core.Path.{_≡_, sym, _∙_}
 use mathlib.Core.List.{List, [], _∷_, _++_}
 use borrow.Author.Tests.{eq-eqb, ne-eqb}
 use Rattle.words.specs.declared.settings.Settings.{Settings}
-use Rattle.words.specs.declared.remembered.Remembered.{Remembered}
 use Rattle.memory.specs.State.{State}
 use Rattle.memory.specs.Writes.{applyWrites}
 use Rattle.plan.specs.declared.plan.Plan.{Plan}
@@ -39,23 +38,22 @@ module _ (s : Settings) (h : Heard) (t : Tables) (k : Performed) (e : k ≡ perf
       rw (left, counted, refused-state s h x f, ne-eqb (refusalFor s h x) 0 f)
 
   pub fill-done :
-      (p : Plan) (r : Remembered) (m numbers marks : List ℕ) (n : ℕ) →
-      k ≡ Done p r →
+      (p : Plan) (m numbers marks : List ℕ) (n : ℕ) →
+      k ≡ Done p →
       m ≡ step s h x .ram →
       n ≡ nextNumber (t .at .number) →
       numbers ≡ applyWrites (markWrites (λ part. n) s p) (t .numbers) →
       marks ≡ applyWrites (markWrites (markOf (p .deed .cell)) s p) (t .marks) →
-      tablesOf m numbers marks (record { remembered = r; number = n }) ≡ fillRecord s h t
+      tablesOf m numbers marks (record { remembered = p .remembered; number = n }) ≡ fillRecord s h t
   unfolding fillRecord marksIn carriedOut
-  fill-done p r m numbers marks n told left counted numbered marked =
-      let f = taken-done s h x p r (sym e ∙ told) in
+  fill-done p m numbers marks n told left counted numbered marked =
+      let f = taken-done s h x p (sym e ∙ told) in
       rw (
         left,
         numbered,
         marked,
         counted,
         f .plan,
-        f .remembered,
         accepted-state s h x (f .none),
         eq-eqb (refusalFor s h x) 0 (f .none),
       )

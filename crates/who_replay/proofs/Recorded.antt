@@ -66,22 +66,21 @@ module _ (s : Settings) (a : ℕ) (h : Heard) (w : Replay) (t : Performed) (e : 
       let f = taken-refused s h x number (sym e ∙ told) in
       rw (left, counted, refused-state s h x f, ne-eqb (refusalFor s h x) 0 f)
 
-  module _ (p : Plan) (r : Remembered) (told : t ≡ Done p r) where
+  module _ (p : Plan) (told : t ≡ Done p) where
     pub replay-done :
         (m : List ℕ) (n : ℕ) (who : Who) →
         m ≡ step s h x .ram →
         n ≡ nextNumber (w .at .number) →
         who ≡ whoWrote s p a n (w .at .who) →
-        replayOf m (record { remembered = r; number = n; who = who }) ≡ replayRecord s a h w
+        replayOf m (record { remembered = p .remembered; number = n; who = who }) ≡ replayRecord s a h w
     unfolding replayRecord whoNext writesIn carriedOut
     replay-done m n who left counted answered =
-        let k = taken-done s h x p r (sym e ∙ told) in
+        let k = taken-done s h x p (sym e ∙ told) in
         rw (
           left,
           answered,
           counted,
           k .plan,
-          k .remembered,
           accepted-state s h x (k .none),
           eq-eqb (refusalFor s h x) 0 (k .none),
           placed s (planFor s (h .value) x) (h .value) a (plan-offset s (x .ram) (x .remembered) (h .value))

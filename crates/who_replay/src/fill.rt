@@ -36,7 +36,8 @@ fn fill_record(
             remembered: before,
             number,
         },
-        Performed::Done(plan, remembered) => {
+        Performed::Done(plan) => {
+            let remembered = plan.remembered;
             mark_plan(numbers, marks, s, plan, number);
             Filling { remembered, number }
         }

@@ -27,7 +27,8 @@ fn replay_record(ram: &mut [u16], s: Settings, address: u16, at: Standing, bytes
             number,
             who: so_far,
         },
-        Performed::Done(plan, remembered) => {
+        Performed::Done(plan) => {
+            let remembered = plan.remembered;
             let who = who_wrote(s, plan, address, number, so_far);
             Standing {
                 remembered,

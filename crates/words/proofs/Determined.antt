@@ -59,6 +59,9 @@ is-not-ours-settled κs a x y v w p q = (determined p q, refl)
 pub has-broadcast-cells-settled : Settled 0 settings.has_broadcast_cells.Kinds.ps settings.has_broadcast_cells.Kinds.r settings.has_broadcast_cells.Reads.Post
 has-broadcast-cells-settled κs a x y v w p q = (determined p q, refl)
 
+pub remembering-settled : Settled 0 remembered.remembering.Kinds.ps remembered.remembering.Kinds.r remembered.remembering.Reads.Post
+remembering-settled κs a x y v w p q = (determined p q, refl)
+
 pub bit-of-settled : Settled 0 bits.bit_of.Kinds.ps bits.bit_of.Kinds.r bits.bit_of.Reads.Post
 bit-of-settled κs a x y v w p q = (determined (p .0) (q .0), refl)
 

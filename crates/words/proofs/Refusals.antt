@@ -9,7 +9,7 @@ use mathlib.Core.List.{List, [], _∷_, _++_}
 use lib.Dec.{ltb, leb, eqb}
 use borrow.Author.Tests.{ltb-true, leb-true, eq-eqb, ne-eqb}
 use Rattle.words.proofs.Basics.{yes-or-no, and-left, and-right}
-use Rattle.words.specs.Refusal.{Test, firstOf, NoneHolds, First}
+use Rattle.words.specs.Refusal.{Test, _when_, firstOf, NoneHolds, First}
 
 -- ---- any list of tests
 
@@ -117,3 +117,9 @@ first-at-most n [] h = omega arith
 first-at-most n (t ∷ ts) h =
     ⊎-elim (λ it. rw it (leb-true (t .number) n (and-left (leb (t .number) n) (atMost n ts) h)))
     (λ fails. rw fails (first-at-most n ts (and-right (leb (t .number) n) (atMost n ts) h))) (yes-or-no (t .holds))
+
+-- a last test that does not hold plays no part
+pub last-no : (ts : List Test) (n : ℕ) → firstOf (ts ++ (n when false ∷ [])) ≡ firstOf ts
+unfolding firstOf
+last-no [] n = refl
+last-no (t ∷ ts) n = rw (last-no ts n)

@@ -42,6 +42,10 @@ unsoundCell = 9
 abbrev pub goingBackLoses : ℕ
 goingBackLoses = 10
 
+-- "11, tested last, when the cell's count is at its largest value"
+abbrev pub countFull : ℕ
+countFull = 11
+
 -- "12 for an address beyond the RAM"
 abbrev pub addressBeyond : ℕ
 addressBeyond = 12

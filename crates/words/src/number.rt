@@ -20,5 +20,7 @@ pub const UNSOUND_STACK: u16 = 8;
 pub const UNSOUND_CELL: u16 = 9;
 // 10: going back to a short record would lose the tag's upper half or the member number
 pub const GOING_BACK_LOSES: u16 = 10;
+// 11: the count of the message's cell is at its largest value
+pub const COUNT_FULL: u16 = 11;
 // 12: an address beyond the RAM
 pub const ADDRESS_BEYOND: u16 = 12;

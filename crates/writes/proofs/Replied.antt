@@ -3,14 +3,17 @@ use Prim.Native.Nat.{ℕ, zero, suc, _+_, _-_, _≤_}
 use native.Mathlib.Omega.{arith}
 use mathlib.Core.Path.{_≡_, refl, sym, _∙_}
 use mathlib.Core.Logic.{⊎-elim}
-use mathlib.Core.Bool.{true, false, not, _&&_}
+use mathlib.Core.Bool.{Bool, true, false, not, _&&_}
 use mathlib.Core.List.{List, [], _∷_, _++_, map, append-assoc}
 use lib.ListN.{length, getD, set, take, drop, length-set, length-append, length-map, take-append-drop}
 use lib.Seq.{take-suc-set, drop-set-lt, getD-append-add, getD-drop}
 use Rattle.records.specs.declared.value.Record.{Record}
 use Rattle.words.specs.declared.settings.Settings.{Settings}
 use Rattle.words.specs.Command.{transmits}
-use Rattle.words.proofs.Basics.{yes-or-no}
+use lib.Dec.{eqb}
+use borrow.Author.Tests.{eqb-true}
+use Rattle.windows.specs.declared.window.Window.{Window}
+use Rattle.words.proofs.Basics.{yes-or-no, and-left}
 use Rattle.words.proofs.Commands.{word-count-to}
 use Rattle.windows.specs.Window.{placeOf}
 use Rattle.plan.specs.declared.deed.Deed.{Deed}
@@ -18,7 +21,7 @@ use Rattle.lookup.specs.declared.target.Target.{Target}
 use Rattle.plan.specs.Act.{wordsSent, actWith, actOf}
 use Rattle.plan.specs.Deed.{deedWith, deedOf}
 use Rattle.memory.specs.Writes.{Write, applyWrites, writesTo}
-use Rattle.writes.specs.Reply.{replyWrites, replyWords}
+use Rattle.writes.specs.Reply.{sentBehind, replyWrites, replyWords}
 
 -- the writes name places in a row, from `from` on
 abbrev InRow : ℕ → List Write → Type 0
@@ -65,20 +68,37 @@ put-row from (x ∷ xs) buffer h l =
       append-assoc,
     )
 
+-- the words behind the status stand in a row from 1 on, and are as many as are sent
+behind-row : (ram : List ℕ) (w : Window) (sent third : ℕ) (alone : Bool) → InRow 1 (sentBehind ram w sent alone third)
+unfolding sentBehind
+behind-row ram w sent third alone =
+    ⊎-elim
+    (λ (e : (eqb sent 1 && alone) ≡ true). rw e (refl, tt))
+    (λ (e : (eqb sent 1 && alone) ≡ false). rw e (row-writes (λ k. getD ram (placeOf w k) 0) sent))
+    (yes-or-no (eqb sent 1 && alone))
+
+behind-length : (ram : List ℕ) (w : Window) (sent third : ℕ) (alone : Bool) → length (sentBehind ram w sent alone third) ≡ sent
+unfolding sentBehind
+behind-length ram w sent third alone =
+    ⊎-elim
+    (λ (e : (eqb sent 1 && alone) ≡ true). rw e (sym (eqb-true sent 1 (and-left (eqb sent 1) alone e))))
+    (λ (e : (eqb sent 1 && alone) ≡ false). rw e (length-writes (λ k. k + 1) (λ k. getD ram (placeOf w k) 0) sent))
+    (yes-or-no (eqb sent 1 && alone))
+
 module _ (ram : List ℕ) (d : Deed) where
   reply-row : InRow 0 (replyWrites ram d)
   unfolding replyWrites
   reply-row =
       ⊎-elim
       (λ (e : d .answered ≡ true).
-      rw e (refl, row-writes (λ k. getD ram (placeOf (d .window) k) 0) (d .sent)))
+      rw e (refl, behind-row ram (d .window) (d .sent) (d .third) (d .«sends_third»)))
       (λ (e : d .answered ≡ false). rw e tt)
       (yes-or-no (d .answered))
 
   reply-short : length (replyWrites ram d) ≤ d .sent + 1
   unfolding replyWrites
   reply-short =
-      let l = length-writes (λ k. k + 1) (λ k. getD ram (placeOf (d .window) k) 0) (d .sent) in
+      let l = behind-length ram (d .window) (d .sent) (d .third) (d .«sends_third») in
       ⊎-elim
       (λ (e : d .answered ≡ true). rw e (omega (arith, l)))
       (λ (e : d .answered ≡ false). rw e (omega arith))

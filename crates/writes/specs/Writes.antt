@@ -21,7 +21,7 @@ pointerWrites s d =
 
 -- rule 6: "Four stack words at the stack pointer: block status, time tag, lookup pointer before the message, command."
 unfoldable pub descriptorOf : Deed → Record → List ℕ
-descriptorOf d v = d .«block_status» ∷ v .tag ∷ d .before ∷ v .command ∷ []
+descriptorOf d v = d .«block_status» ∷ v .tag ∷ d .third ∷ v .command ∷ []
 
 unfoldable pub entryWrites : Entry → List ℕ → List Write
 entryWrites e descriptor = writesTo (λ k. e .pointer + k) (λ k. getD descriptor k 0) 4

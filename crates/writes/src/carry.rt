@@ -27,7 +27,7 @@ fn put_entry(ram: &mut [u16], d: Deed, e: Entry, v: Record)
     let at = e.pointer as usize;
     put(ram, at, d.block_status);
     put(ram, at + 1, v.tag);
-    put(ram, at + 2, d.before);
+    put(ram, at + 2, d.third);
     put(ram, at + 3, v.command);
 }
 

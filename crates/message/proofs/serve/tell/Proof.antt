@@ -22,7 +22,7 @@ returns c = rw (c .before .before .performed .given .1, c .refused-with .ensures
 
 returns-2 : tie.Need-returns-2
 unfolding answerIn rememberedIn
-returns-2 c = rw (c .before .before .performed2 .given .1, c .accepted-with .ensures)
+returns-2 c = rw (c .before .before .before .performed2 .given .1, c .before .accepted-with .ensures)
 
 pub tell-spec : {M : Type 1} → statement M
 tell-spec =

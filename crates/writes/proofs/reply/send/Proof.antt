@@ -7,15 +7,15 @@ use Rattle.writes.proofs.reply.send.Tie as tie
 put-requires : tie.Need-put-requires
 put-requires c κs = search needs
 
-send-words-requires : tie.Need-send-words-requires
-send-words-requires c κs = search needs
+send-behind-requires : tie.Need-send-behind-requires
+send-behind-requires c κs = search needs
 
 same-length : tie.Need-same-length
 same-length c = search needs
 
 returns : tie.Need-returns
 returns c = let p = c .before .before .before .before .before .before .before .before in
-    reply-sent _ _ _ _ _ (p .before .before .before .if1 .taken) (p .put .ensures) (c .before .before .send-words .ensures)
+    reply-sent _ _ _ _ _ (p .before .before .before .if1 .taken) (p .put .ensures) (c .before .before .send-behind .ensures)
 
 same-length-2 : tie.Need-same-length-2
 same-length-2 c = search needs
@@ -30,4 +30,4 @@ returns-3 c = reply-none _ _ _ (c .if1 .left)
 pub send-spec : {M : Type 1} → statement M
 send-spec =
     tie.close
-    (tie.spec put-requires send-words-requires same-length returns same-length-2 returns-2 returns-3)
+    (tie.spec put-requires send-behind-requires same-length returns same-length-2 returns-2 returns-3)
