@@ -27,7 +27,7 @@ use Rattle.plan.specs.Plan.{planWith}
 use Rattle.plan.specs.Entry.{entryOf}
 use Rattle.writes.specs.Writes.{deedWrites}
 use Rattle.memory.specs.Writes.{writesTo}
-use Rattle.writes.specs.Reply.{replyWrites, replyWords}
+use Rattle.writes.specs.Reply.{sentBehind, replyWrites, replyWords}
 use Rattle.message.specs.Heard.{Heard}
 use Rattle.message.specs.Answer.{acceptedWith}
 use Rattle.memory.specs.State.{State}
@@ -63,7 +63,7 @@ pub words-same :
     (m n : List ℕ) (d : Deed) →
     ((k : ℕ) → getD m (placeOf (d .window) k) 0 ≡ getD n (placeOf (d .window) k) 0) →
     replyWords m d ≡ replyWords n d
-unfolding replyWords replyWrites
+unfolding replyWords replyWrites sentBehind
 words-same m n d h =
     let w = d .window in
     rw (writes-same (λ k. k + 1) (λ k. getD m (placeOf w k) 0) (λ k. getD n (placeOf w k) 0) (d .sent) (λ k l. h k))
@@ -139,7 +139,7 @@ module _
     answer-same :
         acceptedWith (madePlan m s (x .remembered) (v .value)) ≡ acceptedWith (madePlan n s (y .remembered) (v .value))
     unfolding acceptedWith planWith entryOf
-    answer-same = rw (aim-same, pointers-same, block-same)
+    answer-same = rw (aim-same, block-same)
 
     pub effect-same : effectOf s v x ≡ effectOf s v y
     effect-same =
