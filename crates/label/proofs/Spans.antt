@@ -19,11 +19,11 @@ use Rattle.cells.specs.Cell.{soundCell}
 use Rattle.cells.specs.Stack.{stackWindow}
 use Rattle.cells.proofs.Sizes.{cell-sized, window-nonempty}
 use Rattle.memory.specs.Kind.{kindNumbered}
-use Rattle.area.specs.Area.{isRead, cellNumbered, isUnsound}
+use Rattle.area.specs.Area.{isRead, readEnd, cellNumbered, isUnsound}
 use Rattle.area.proofs.Listed.{read-listed}
 use Rattle.label_spans.specs.declared.span.Span.{Span}
 use Rattle.label.specs.Listing.{above, passing, pairsBelow}
-use Rattle.label_spans.specs.Span.{windowNumbered, readAndSound, spanOfWindow, noSpan, spanOf, startsInto, endsInto, spansMeet, spanAt, placesMeet, readInVain, readEnd}
+use Rattle.label_spans.specs.Span.{windowNumbered, readAndSound, spanOfWindow, noSpan, spanOf, startsInto, endsInto, spansMeet, spanAt, placesMeet, readInVain}
 use Rattle.label.specs.Label.{takesPart, cellsMeet, meetingPairs, unsoundCells}
 use Rattle.label.proofs.Turns.{passing-same, pairs-same, pairs-stay}
 use Rattle.label.proofs.Meeting.{TakesPart, part-facts}
