@@ -10,12 +10,12 @@ use std::process;
 const FOLDER: &str = "SOLKVERVA_LIB";
 /// An archive `libNAME.a` for each.
 const NAMES: [&str; 6] = [
-    "boundary",
-    "boundary_bytes",
-    "boundary_values",
-    "boundary_origins",
-    "boundary_long",
-    "boundary_control",
+    "c_questions",
+    "c_message_bytes",
+    "c_message_values",
+    "c_who",
+    "c_long",
+    "c_control",
 ];
 
 fn main() {

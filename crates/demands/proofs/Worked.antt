@@ -25,7 +25,7 @@ use Rattle.words.specs.Remembered.{remembering}
 use Rattle.plan.specs.Plan.{planWith, planOf}
 use Rattle.plan.specs.Entry.{entryOf}
 use Rattle.writes.specs.Copies.{dataWrites}
-use Rattle.writes.specs.Writes.{pointerWrites, descriptorOf, entryWrites, stackPointerWrites, deedWrites, stackWrites, writesOf}
+use Rattle.writes.specs.Writes.{pointerList, descriptorOf, entryList, deedList, stackList, listOf, pointerWrites, entryWrites, stackPointerWrites, deedWrites, stackWrites, writesOf}
 use Rattle.writes.specs.Reply.{replyWords}
 use Rattle.writes.proofs.Replied.{reply-front, sent-few}
 use Rattle.message.specs.declared.answer.Answer.{Answer}
@@ -48,7 +48,7 @@ avoids-writes :
     ((k : ℕ) → k < 4 → a ≡ p .entry .pointer + k → ⊥) →
     (a ≡ stackPointerPlace (s .area) → ⊥) →
     Avoids a (writesOf s p v)
-unfolding writesOf deedWrites stackWrites entryWrites pointerWrites
+unfolding listOf deedList stackList entryList pointerList
 avoids-writes s p v a stored pointer descriptor stack =
     let d = p .deed in
     let words = descriptorOf d v in

@@ -14,7 +14,8 @@ use Rattle.records.specs.Value.{lastsZero, keepsLayout}
 use Rattle.faults.specs.Fault.{expectedWords, faultsOf, faultsFor, anyFault}
 use Rattle.memory.specs.Map.{ramRefused, stackPointerPlace, lookupTable, busyPlace, isBusyAt, illegalPlace, isIllegalAt}
 use Rattle.memory.specs.Kind.{cellNumber, kindNumbered, kindOf}
-use Rattle.memory.specs.Writes.{applyWrites, writesTo}
+use Rattle.memory.specs.Rows.{row}
+use Rattle.memory.specs.Writes.{applyWrites}
 use Rattle.windows.specs.Window.{runFrom, aligned, placeOf, rollsOver, meets, meetsFixed}
 use Rattle.cells.specs.Cell.{controlPart, pickScheme, lookupAt, cellFrom, cellAt, windowOf, doubleFits, soundCell}
 use Rattle.cells.specs.Stack.{stackPointer, stackWindow, stackSound}
@@ -26,7 +27,7 @@ use Rattle.plan.specs.Deed.{signalsOf, deedWith, deedOf}
 use Rattle.plan.specs.Entry.{entryOf}
 use Rattle.words.specs.Remembered.{nothingRemembered, remembering}
 use Rattle.plan.specs.Plan.{interruptWord, planWith, planOf}
-use Rattle.writes.specs.Writes.{pointerWrites, descriptorOf, entryWrites, deedWrites, stackWrites, writesOf}
+use Rattle.writes.specs.Writes.{pointerList, descriptorOf, entryList, deedList, stackList, listOf}
 use Rattle.writes.specs.Reply.{sentBehind, replyWrites, replyWords}
 use Rattle.message.specs.Tests.{cellUnsound, refusalFor}
 use Rattle.message.specs.Answer.{refusedWith, acceptedWith, answerFor}
@@ -176,5 +177,5 @@ expected =
     ∷ []
 
 pub computed : map seen cases ≡ expected
-unfolding bitsOf wordCount isModeSubaddress stackSizeListed settingsRefused isOwn isBroadcast isNotOurs hasBroadcastCells firstOf transferFails breaksTransfer lastsZero keepsLayout expectedWords faultsOf faultsFor anyFault ramRefused stackPointerPlace lookupTable busyPlace isBusyAt illegalPlace isIllegalAt cellNumber kindOf applyWrites writesTo runFrom aligned placeOf rollsOver meets meetsFixed controlPart pickScheme lookupAt cellFrom cellAt windowOf doubleFits soundCell stackPointer stackWindow stackSound cellFor isIllegal isBusy targetOf withheld wordsStored wordsSent actWith actOf mayMove stride moves motionWith motionOf blockStatus statusBits statusWord signalsOf deedWith deedOf entryOf interruptWord planWith planOf pointerWrites descriptorOf entryWrites deedWrites stackWrites writesOf sentBehind replyWrites replyWords cellUnsound refusalFor refusedWith acceptedWith answerFor carriedOut stateFor answerOf step kindNumbered programSettings isRead cellNumbered isUnsound orElse lowest lowestUnsound areaRefusal checkArea run effectOf effects swapAt exchangeAll wellFormed allWellFormed mayExchange allowedAt allowedAll withoutWrap withoutStackRollover rememberedLast entriesOn lastOf stackWord keptAfter stackAfter rememberedAfter startsWell takesWell asked plainRam startOf orderOf saidOf seen
+unfolding bitsOf wordCount isModeSubaddress stackSizeListed settingsRefused isOwn isBroadcast isNotOurs hasBroadcastCells firstOf transferFails breaksTransfer lastsZero keepsLayout expectedWords faultsOf faultsFor anyFault ramRefused stackPointerPlace lookupTable busyPlace isBusyAt illegalPlace isIllegalAt cellNumber kindOf applyWrites row runFrom aligned placeOf rollsOver meets meetsFixed controlPart pickScheme lookupAt cellFrom cellAt windowOf doubleFits soundCell stackPointer stackWindow stackSound cellFor isIllegal isBusy targetOf withheld wordsStored wordsSent actWith actOf mayMove stride moves motionWith motionOf blockStatus statusBits statusWord signalsOf deedWith deedOf entryOf interruptWord planWith planOf pointerList descriptorOf entryList deedList stackList listOf sentBehind replyWrites replyWords cellUnsound refusalFor refusedWith acceptedWith answerFor carriedOut stateFor answerOf step kindNumbered programSettings isRead cellNumbered isUnsound orElse lowest lowestUnsound areaRefusal checkArea run effectOf effects swapAt exchangeAll wellFormed allWellFormed mayExchange allowedAt allowedAll withoutWrap withoutStackRollover rememberedLast entriesOn lastOf stackWord keptAfter stackAfter rememberedAfter startsWell takesWell asked plainRam startOf orderOf saidOf seen
 computed = refl

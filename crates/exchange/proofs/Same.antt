@@ -26,6 +26,7 @@ use Rattle.lookup.specs.Target.{cellFor, isIllegal, isBusy, targetOf}
 use Rattle.plan.specs.Plan.{planWith}
 use Rattle.plan.specs.Entry.{entryOf}
 use Rattle.writes.specs.Writes.{deedWrites}
+use Rattle.memory.specs.Rows.{row}
 use Rattle.memory.specs.Writes.{writesTo}
 use Rattle.writes.specs.Reply.{sentBehind, replyWrites, replyWords}
 use Rattle.message.specs.Heard.{Heard}
@@ -54,7 +55,7 @@ target-same m n s command c i b = rw (c, i, b)
 
 writes-same :
     (place f g : ℕ → ℕ) (n : ℕ) → ((k : ℕ) → k < n → f k ≡ g k) → writesTo place f n ≡ writesTo place g n
-unfolding writesTo
+unfolding row
 writes-same place f g zero h = refl
 writes-same place f g (suc n) h = rw (writes-same place f g n (λ k l. h k (omega arith)), h n (omega arith))
 

@@ -7,13 +7,14 @@ use mathlib.Core.List.{List, [], _∷_, _++_}
 use lib.ListN.{length, getD, set, length-set}
 use lib.Seq.{getD-set-same, getD-set-other, set-out}
 use Rattle.words.proofs.Basics.{lt-or-ge, eq-or-ne}
+use Rattle.memory.specs.Rows.{row, Each}
 use Rattle.memory.specs.Writes.{Write, applyWrites, writesTo}
+use Rattle.memory.proofs.Rows.{each-append, each-row}
 use Rattle.memory.proofs.Writes.{apply-append, length-apply}
 
 -- no write of the list names the address
 abbrev pub Avoids : ℕ → List Write → Type 0
-Avoids a [] = Unit {0}
-Avoids a (x ∷ xs) = (a ≡ x .at → ⊥) × Avoids a xs
+Avoids a xs = Each (λ x. a ≡ x .at → ⊥) xs
 
 -- such an address keeps its word
 pub untouched :
@@ -24,17 +25,11 @@ untouched a (x ∷ xs) ram h =
     untouched a xs (set ram (x .at) (x .word)) (h .1) ∙ getD-set-other ram (x .at) a (x .word) 0 (h .0)
 
 pub avoids-append : (a : ℕ) (xs ys : List Write) → Avoids a xs → Avoids a ys → Avoids a (xs ++ ys)
-avoids-append a [] ys h k = k
-avoids-append a (x ∷ xs) ys h k = (h .0, avoids-append a xs ys (h .1) k)
+avoids-append a xs ys h k = each-append (λ (x : Write). a ≡ x .at → ⊥) xs ys h k
 
 pub avoids-places :
     (a : ℕ) (place word : ℕ → ℕ) (n : ℕ) → ((k : ℕ) → k < n → a ≡ place k → ⊥) → Avoids a (writesTo place word n)
-unfolding writesTo
-avoids-places a place word zero h = tt
-avoids-places a place word (suc n) h =
-    avoids-append a (writesTo place word n) (record { at = place n; word = word n } ∷ [])
-    (avoids-places a place word n (λ k l. h k (omega arith)))
-    (h n (omega arith), tt)
+avoids-places a place word n h = each-row (λ (x : Write). a ≡ x .at → ⊥) (λ k. record { at = place k; word = word k }) n h
 
 -- one write puts the same word into two RAMs of one length
 set-same-at :
@@ -67,7 +62,7 @@ pub written :
     place k < length ram →
     ((j : ℕ) → k < j → j < n → place k ≡ place j → ⊥) →
     getD (applyWrites (writesTo place word n) ram) (place k) 0 ≡ word k
-unfolding writesTo applyWrites
+unfolding row applyWrites
 written place word zero k ram h l d = absurd (omega arith)
 written place word (suc n) k ram h l d =
     let m = applyWrites (writesTo place word n) ram in

@@ -1,5 +1,6 @@
 pub mod Places
 pub mod Numbers
+pub mod Rows
 pub mod Writes
 pub mod Footprint
 pub mod Alike

@@ -4,7 +4,8 @@ use native.Mathlib.Numerals.{add-one}
 use mathlib.Core.Path.{_≡_, refl, _∙_}
 use mathlib.Core.List.{List, [], _∷_, _++_}
 use lib.ListN.{length, set, length-set}
-use Rattle.memory.specs.Writes.{Write, applyWrites, writesTo}
+use Rattle.memory.specs.Rows.{row}
+use Rattle.memory.specs.Writes.{Write, applyWrites}
 
 -- two lists one after the other
 pub apply-append :
@@ -13,12 +14,12 @@ unfolding applyWrites
 apply-append [] ys ram = refl
 apply-append (x ∷ xs) ys ram = apply-append xs ys (set ram (x .at) (x .word))
 
--- one write more
+-- one write more in a row
 pub apply-more :
-    (place word : ℕ → ℕ) (n : ℕ) (ram : List ℕ) →
-    applyWrites (writesTo place word (n + 1)) ram ≡ set (applyWrites (writesTo place word n) ram) (place n) (word n)
-unfolding applyWrites writesTo
-apply-more place word n ram = rw add-one (apply-append (writesTo place word n) (record { at = place n; word = word n } ∷ []) ram)
+    (f : ℕ → Write) (n : ℕ) (ram : List ℕ) →
+    applyWrites (row f (n + 1)) ram ≡ set (applyWrites (row f n) ram) (f n .at) (f n .word)
+unfolding applyWrites row
+apply-more f n ram = rw add-one (apply-append (row f n) (f n ∷ []) ram)
 
 -- no list of writes changes the length
 pub length-apply : (xs : List Write) (ram : List ℕ) → length (applyWrites xs ram) ≡ length ram

@@ -1,4 +1,5 @@
 pub mod Map
 pub mod Kind
+pub mod Rows
 pub mod Writes
 pub mod State

@@ -36,7 +36,8 @@ use Rattle.plan.specs.Entry.{entryOf}
 use Rattle.plan.proofs.Reach.{deed-stored}
 use Rattle.plan.proofs.Contained.{pointer-exact}
 use Rattle.writes.specs.Copies.{dataWrites}
-use Rattle.writes.specs.Writes.{pointerWrites, descriptorOf, entryWrites, stackPointerWrites, deedWrites, stackWrites, writesOf}
+use Rattle.writes.specs.Writes.{pointerList, descriptorOf, entryList, deedList, stackList, listOf, pointerWrites, entryWrites, stackPointerWrites, deedWrites, stackWrites, writesOf}
+use Rattle.memory.specs.Rows.{row}
 use Rattle.memory.specs.Writes.{applyWrites, writesTo}
 use Rattle.memory.proofs.Writes.{apply-append, length-apply}
 use Rattle.memory.proofs.Footprint.{Avoids, untouched, avoids-append, avoids-places, written}
@@ -69,7 +70,7 @@ afterMessage ram s v = applyWrites (writesOf s (aPlan ram s v) v) ram
 pub after-made :
     (s : Settings) (ram : List ℕ) (before : Remembered) (v : Record) →
     applyWrites (writesOf s (planOf s ram before v) v) ram ≡ afterMessage ram s v
-unfolding planOf planWith writesOf stackWrites
+unfolding planOf planWith listOf stackList
 after-made s ram before v = refl
 
 abbrev pub afterDeed : List ℕ → Settings → Record → List ℕ
@@ -78,7 +79,7 @@ afterDeed ram s v = applyWrites (deedWrites s (deedFor ram s v) v) ram
 module _ (ram : List ℕ) (s : Settings) (v : Record) where
   after-parts :
       afterMessage ram s v ≡ applyWrites (stackWrites s (aPlan ram s v) v) (afterDeed ram s v)
-  unfolding writesOf planWith
+  unfolding listOf planWith
   after-parts = apply-append (deedWrites s (deedFor ram s v) v) (stackWrites s (aPlan ram s v) v) ram
 
   pub after-length : length (afterMessage ram s v) ≡ length ram
@@ -124,7 +125,7 @@ module _ (ram : List ℕ) (s : Settings) (v : Record) where
       (a : ℕ) →
       (transmits (v .command) ≡ true) ⊎ Outside (targetOf ram s (v .command) .window) a →
       Avoids a (dataWrites (targetOf ram s (v .command) .window) (v .words) (deedFor ram s v .stored))
-  unfolding writesTo
+  unfolding row
   data-avoids a (inl e) = rw (stored-none e) tt
   data-avoids a (inr h) =
       let w = targetOf ram s (v .command) .window in
@@ -135,7 +136,7 @@ module _ (ram : List ℕ) (s : Settings) (v : Record) where
       (a : ℕ) →
       (a ≡ lookupPlace (s .area) (targetOf ram s (v .command) .number) → ⊥) →
       Avoids a (pointerWrites s (deedFor ram s v))
-  unfolding pointerWrites deedOf deedWith
+  unfolding pointerList deedOf deedWith
   lookup-avoids a h =
       let d = deedFor ram s v in
       ⊎-elim (λ e. rw e (h, tt)) (λ e. rw e tt) (yes-or-no (d .moves))
@@ -146,7 +147,7 @@ module _ (ram : List ℕ) (s : Settings) (v : Record) where
       (a ≡ lookupPlace (s .area) (targetOf ram s (v .command) .number) → ⊥) →
       (transmits (v .command) ≡ true) ⊎ Outside (targetOf ram s (v .command) .window) a →
       Avoids a (deedWrites s (deedFor ram s v) v)
-  unfolding deedWrites deedOf deedWith
+  unfolding deedList deedOf deedWith
   deed-avoids a h w =
       let d = deedFor ram s v in
       avoids-append a (dataWrites (d .window) (v .words) (d .stored)) (pointerWrites s d) (data-avoids a w)
@@ -159,7 +160,7 @@ module _ (ram : List ℕ) (s : Settings) (v : Record) where
         Outside (stackWindow ram s) a →
         (a ≡ stackPointerPlace (s .area) → ⊥) →
         Avoids a (stackWrites s (aPlan ram s v) v)
-    unfolding stackWrites entryWrites planWith entryOf
+    unfolding stackList entryList planWith entryOf
     entry-avoids a h p =
         avoids-append a (entryWrites (entryOf ram s) (descriptorOf (deedFor ram s v) v)) (stackPointerWrites s (entryOf ram s))
         (avoids-places a (λ k. stackPointer ram s + k) (λ k. getD (descriptorOf (deedFor ram s v) v) k 0) 4
@@ -217,7 +218,7 @@ module _ (ram : List ℕ) (s : Settings) (v : Record) where
 
     -- "The stack pointer moves on by 4, wrapping."
     pub stack-moves : stackPointer (afterMessage ram s v) s ≡ placeOf (stackWindow ram s) 4
-    unfolding stackPointer stackWrites applyWrites planWith entryOf
+    unfolding stackPointer stackList applyWrites planWith entryOf
     stack-moves =
         let p = stack-pointer-between (s .area) in
         let e = entryOf ram s in
@@ -235,7 +236,7 @@ module _ (ram : List ℕ) (s : Settings) (v : Record) where
         (k : ℕ) →
         k < 4 →
         getD (afterMessage ram s v) (stackPointer ram s + k) 0 ≡ getD (descriptorOf (deedFor ram s v) v) k 0
-    unfolding stackWrites entryWrites applyWrites planWith entryOf
+    unfolding stackList entryList applyWrites planWith entryOf
     entry-stands k h =
         let d = descriptorOf (deedFor ram s v) v in
         let from = stack-word-from ram s (f .agreed) (f .stack) k h in
@@ -254,7 +255,7 @@ module _ (ram : List ℕ) (s : Settings) (v : Record) where
     pub lookup-after :
         getD (afterMessage ram s v) (lookupPlace (s .area) (targetOf ram s (v .command) .number)) 0
         ≡ deedFor ram s v .after
-    unfolding deedWrites pointerWrites applyWrites deedOf deedWith
+    unfolding deedList pointerList applyWrites deedOf deedWith
     lookup-after =
         let d = deedFor ram s v in
         let number = targetOf ram s (v .command) .number in
@@ -280,7 +281,7 @@ module _ (ram : List ℕ) (s : Settings) (v : Record) where
         (k : ℕ) →
         k < deedFor ram s v .stored →
         getD (afterMessage ram s v) (placeOf (targetOf ram s (v .command) .window) k) 0 ≡ getD (v .words) k 0
-    unfolding deedWrites deedOf deedWith planWith targetOf
+    unfolding deedList deedOf deedWith planWith targetOf
     stored-stands k h =
         let d = deedFor ram s v in
         let c = cellFor ram s (v .command) in
@@ -315,7 +316,7 @@ module _ (ram : List ℕ) (s : Settings) (v : Record) where
         a < stackWindow ram s .start + stackWindow ram s .size →
         ((k : ℕ) → k < 4 → a ≡ stackPointer ram s + k → ⊥) →
         getD (afterMessage ram s v) a 0 ≡ getD ram a 0
-    unfolding stackWrites entryWrites planWith entryOf
+    unfolding stackList entryList planWith entryOf
     block-stays a l h n =
         let o = stack-address ram s (f .stack) a l h in
         let e = entryOf ram s in

@@ -17,7 +17,9 @@ use Rattle.message.specs.Message.{planFor, carriedOut, step}
 use Rattle.message.specs.Run.{run}
 use Rattle.message.proofs.Refusals.{refused-state, accepted-state}
 use borrow.Author.Tests.{eq-eqb, ne-eqb}
-use Rattle.who.specs.Next.{writesIn}
+use Rattle.writes.specs.declared.part.Part.{Part}
+use Rattle.writes.specs.Asked.{asWrite}
+use Rattle.who.specs.Next.{listIn, writesIn}
 use Rattle.who.specs.Replay.{Replay, terminalIn, replayRecord, replay}
 
 pub record Alike (w : Replay) (x : State) : Type 0 where
@@ -27,7 +29,7 @@ pub record Alike (w : Replay) (x : State) : Type 0 where
 
 -- a record's list of writes is what it does to RAM, refused or not
 pub writes-made : (s : Settings) (h : Heard) (x : State) → step s h x .ram ≡ applyWrites (writesIn s h x) (x .ram)
-unfolding writesIn carriedOut applyWrites
+unfolding listIn carriedOut applyWrites
 writes-made s h x =
     ⊎-elim
     (λ (e : refusalFor s h x ≡ 0). rw (accepted-state s h x e, eq-eqb (refusalFor s h x) 0 e))
@@ -51,9 +53,9 @@ module _ (s : Settings) (w : Replay) (x : State) (k : Alike w x) where
   pub plan-alike : (v : Record) → planFor s v (terminalIn w) ≡ planFor s v x
   plan-alike v = rw (k .ram, k .remembered)
 
-  pub writes-alike : (h : Heard) → writesIn s h (terminalIn w) ≡ writesIn s h x
-  unfolding writesIn
-  writes-alike h = rw (refusal-alike h, plan-alike (h .value))
+  pub list-alike : {A : Type 0} (ask : ℕ → ℕ → Part → A) (h : Heard) → listIn ask s h (terminalIn w) ≡ listIn ask s h x
+  unfolding listIn
+  list-alike ask h = rw (refusal-alike h, plan-alike (h .value))
 
   remembered-alike : (h : Heard) → step s h (terminalIn w) .remembered ≡ step s h x .remembered
   unfolding carriedOut
@@ -69,7 +71,7 @@ module _ (s : Settings) (w : Replay) (x : State) (k : Alike w x) where
   unfolding replayRecord
   record-alike a h =
       record {
-        ram = rw (writes-made s h (terminalIn w), writes-made s h x, writes-alike h, k .ram);
+        ram = rw (writes-made s h (terminalIn w), writes-made s h x, list-alike asWrite h, k .ram);
         remembered = remembered-alike h;
         room = reply-length s h x ∙ k .room;
       }

@@ -1,100 +1,37 @@
 -- The answer is right: the theorem of request 10.
-use Prim.Native.Nat.{ℕ, zero, suc, _+_, _-_, _%_, _^_, _≤_, _<_}
+use Prim.Native.Nat.{ℕ, _+_, _-_, _%_, _^_, _<_}
 use native.Mathlib.Omega.{arith}
 use mathlib.Core.Path.{_≡_, refl, sym, ap, _∙_}
 use mathlib.Core.Logic.{_⊎_, inl, inr, ⊎-elim}
-use mathlib.Core.Bool.{true, false}
-use mathlib.Core.List.{List, [], _∷_, _++_, map, map-append, append-assoc}
-use lib.ListN.{length, getD, length-map, List·getD-append}
-use lib.Seq.{getD-append-add}
-use borrow.Author.Tests.{eq-eqb, ne-eqb, leb-false, le-leb, lt-leb}
-use lib.Dec.{leb}
+use mathlib.Core.List.{List, [], _∷_}
+use lib.ListN.{length, getD}
+use borrow.Author.Tests.{eq-eqb, ne-eqb, leb-false}
 use Rattle.words.specs.declared.settings.Settings.{Settings}
-use Rattle.words.specs.Bits.{bitOf}
 use Rattle.words.specs.Number.{addressBeyond}
-use Rattle.words.proofs.Basics.{yes-or-no, eq-or-ne, lt-or-ge}
+use Rattle.words.proofs.Basics.{eq-or-ne}
 use Rattle.words.proofs.Refusals.{accepted}
-use Rattle.records.specs.declared.value.Record.{Record}
 use Rattle.memory.specs.State.{State}
-use Rattle.memory.specs.Writes.{Write, writesTo}
 use Rattle.memory.proofs.Writes.{length-apply}
-use Rattle.memory.proofs.Footprint.{untouched}
-use Rattle.windows.specs.Window.{placeOf}
-use Rattle.plan.specs.declared.deed.Deed.{Deed}
-use Rattle.plan.specs.declared.plan.Plan.{Plan}
-use Rattle.writes.specs.Writes.{pointerWrites, deedWrites, stackWrites, writesOf}
-use Rattle.writes.proofs.Replied.{length-writes}
+use Rattle.writes.specs.declared.part.Part.the-variants.{Data}
+use Rattle.writes.specs.Asked.{Planned, planned, asWrite}
 use Rattle.message.specs.Heard.{Heard}
 use Rattle.message.specs.Tests.{refusalFor}
 use Rattle.message.specs.Message.{planFor, step}
 use Rattle.message.specs.Run.{run}
+use Rattle.trace.specs.Walk.{nextNumber}
 use Rattle.who_origin.specs.declared.origin.Origin.{Origin}
-use Rattle.who_origin.specs.declared.origin.Part.the-variants.{Data}
 use Rattle.who_origin.specs.declared.origin.Who.{Who}
 use Rattle.who_origin.specs.declared.origin.Who.the-variants.{AsInImage, Written}
-use Rattle.who_origin.specs.Origin.{lastPlace, partAt, whoAt}
-use Rattle.who.specs.Next.{writesIn, whoNext}
+use Rattle.who_origin.specs.Origin.{namesNot, LastNaming, written}
+use Rattle.who.specs.Next.{listIn, whoNext}
 use Rattle.who.specs.Tests.{whoTests, whoRefusal}
 use Rattle.who.specs.Values.{valuesOf}
-use Rattle.who.specs.Replay.{Replay, replayOf, replayRecord, replay, beginning, refusedAt, asked}
-use Rattle.who.specs.Answered.{terminalWith, noneWrites, wordAt, Named, Answered}
-use Rattle.who_origin.proofs.Last.{none-avoids, last-word}
+use Rattle.who.specs.Replay.{Replay, replayOf, terminalIn, replayRecord, replay, beginning, refusedAt, asked}
+use Rattle.who.specs.Answered.{terminalWith, noneWrites, Named, Answered}
+use Rattle.who_origin.proofs.Last.{names-or-not, none-named, each-last, last-none, last-found, put-last, put-none}
+use Rattle.who.proofs.Listed.{asked-in, DataOf, data-words}
 use Rattle.who.proofs.Gone.{part-refused, part-replayed}
-use Rattle.who.proofs.Alike.{Alike, writes-made, plan-alike, writes-alike, record-alike, replay-alike}
-
--- ---- the words of a list of writes
-
-word-row : (place word : ℕ → ℕ) (n k : ℕ) → k < n → wordAt (writesTo place word n) k ≡ word k
-unfolding writesTo
-word-row place word zero k h = absurd (omega arith)
-word-row place word (suc n) k h =
-    let xs = writesTo place word n in
-    let one : List Write = record { at = place n; word = word n } ∷ [] in
-    let f : Write → ℕ = λ w. w .word in
-    let l : length (map f xs) ≡ n = length-map xs f ∙ length-writes place word n in
-    ⊎-elim
-    (λ (q : k ≡ n).
-    let e : k ≡ length (map f xs) + 0 = omega arith in
-    rw (map-append f xs one, e, getD-append-add (map f xs) (map f one) 0 0) (ap word (sym q ∙ e)))
-    (λ (q : k ≡ n → ⊥).
-    rw (map-append f xs one, List·getD-append (map f xs) (map f one) 0 k (omega arith)) (word-row place word n k (omega arith)))
-    (eq-or-ne k n)
-
--- a place that says "data word" is that of a word stored, by its number in the message
-data-place : (d : Deed) (place k : ℕ) → partAt d (suc place) ≡ Data k → (k ≡ suc place) × (place < d .stored)
-unfolding partAt
-data-place d place k e =
-    let b = d .stored + bitOf (d .moves) in
-    ⊎-elim
-    (λ (l : d .stored < suc place).
-    let f = rw (lt-leb (suc place) (d .stored) l) at e in
-    ⊎-elim
-    (λ (t : leb (suc place) b ≡ true). let g = rw t at f in let z : _≡_ {A = ℕ} 0 1 = cc in absurd (omega arith))
-    (λ (t : leb (suc place) b ≡ false).
-    let g = rw t at f in
-    ⊎-elim
-    (λ (u : leb (suc place) (b + 4) ≡ true). let i = rw u at g in let z : _≡_ {A = ℕ} 0 1 = cc in absurd (omega arith))
-    (λ (u : leb (suc place) (b + 4) ≡ false). let i = rw u at g in let z : _≡_ {A = ℕ} 0 1 = cc in absurd (omega arith))
-    (yes-or-no (leb (suc place) (b + 4))))
-    (yes-or-no (leb (suc place) b)))
-    (λ (l : suc place ≤ d .stored).
-    let f = rw (le-leb (suc place) (d .stored) l) at e in
-    let g : suc place ≡ k = cc in
-    (sym g, omega arith))
-    (lt-or-ge (d .stored) (suc place))
-
--- the first writes of a message are the record's words
-data-first :
-    (s : Settings) (p : Plan) (v : Record) (k : ℕ) → k < p .deed .stored → wordAt (writesOf s p v) k ≡ getD (v .words) k 0
-unfolding writesOf deedWrites
-data-first s p v k h =
-    let place = placeOf (p .deed .window) in
-    let word : ℕ → ℕ = λ i. getD (v .words) i 0 in
-    let xs = writesTo place word (p .deed .stored) in
-    let f : Write → ℕ = λ w. w .word in
-    let l : k < length (map f xs) = omega (arith, length-map xs f, length-writes place word (p .deed .stored)) in
-    let rest = pointerWrites s (p .deed) ++ stackWrites s p v in
-    rw (append-assoc, map-append f xs rest, List·getD-append (map f xs) (map f rest) 0 k l) (word-row place word (p .deed .stored) k h)
+use Rattle.who.proofs.Alike.{Alike, writes-made, plan-alike, list-alike, record-alike, replay-alike}
 
 -- ---- records, one after the other
 
@@ -105,43 +42,41 @@ module _ (s : Settings) (a : ℕ) where
   none-kept [] x n = refl
   none-kept (h ∷ hs) x n =
       none-kept hs (step s h x) (n .1)
-      ∙ rw (writes-made s h x) (untouched a (writesIn s h x) (x .ram) (none-avoids a (writesIn s h x) (n .0)))
+      ∙ rw (writes-made s h x, asked-in asWrite s h x) (put-none (λ (w : Planned). w .word) a (listIn planned s h x) (x .ram) (n .0))
 
   length-kept : (h : Heard) (x : State) → length (step s h x .ram) ≡ length (x .ram)
   length-kept h x = rw (writes-made s h x, length-apply)
 
-  module _ (h : Heard) (x : State) (place : ℕ) (e : lastPlace a (writesIn s h x) ≡ suc place) where
+  module _ (h : Heard) (x : State) (l : LastNaming a (listIn planned s h x)) where
     -- a record that writes is accepted
     writer-accepted : refusalFor s h x ≡ 0
-    unfolding writesIn lastPlace
+    unfolding listIn
     writer-accepted =
         ⊎-elim
         (λ (z : refusalFor s h x ≡ 0). z)
-        (λ (m : refusalFor s h x ≡ 0 → ⊥). let f = rw (ne-eqb (refusalFor s h x) 0 m) at e in absurd (omega arith))
+        (λ (m : refusalFor s h x ≡ 0 → ⊥). absurd (none-named a (rw (ne-eqb (refusalFor s h x) 0 m) at l)))
         (eq-or-ne (refusalFor s h x) 0)
 
-    writer-word :
-        (k : ℕ) →
-        partAt (planFor s (h .value) x .deed) (suc place) ≡ Data k →
-        wordAt (writesIn s h x) place ≡ getD (h .value .words) (k - 1) 0
-    unfolding writesIn
-    writer-word k f =
-        let d = data-place (planFor s (h .value) x .deed) place k f in
-        let q : k - 1 ≡ place = omega (arith, d .0) in
-        rw (eq-eqb (refusalFor s h x) 0 writer-accepted, q) (data-first s (planFor s (h .value) x) (h .value) place (d .1))
+    writer-word : DataOf (h .value .words) (l .it)
+    unfolding listIn
+    writer-word =
+        each-last (DataOf (h .value .words)) a (listIn planned s h x)
+        (rw (eq-eqb (refusalFor s h x) 0 writer-accepted) (data-words s (planFor s (h .value) x) (h .value)))
+        l
 
     abbrev origin : ℕ → Origin
     origin n =
-        let d = planFor s (h .value) x .deed in
-        record { number = (n + 1) % 2 ^ 64; cell = d .cell; part = partAt d (suc place) }
+        record { number = (n + 1) % 2 ^ 64; cell = planFor s (h .value) x .deed .cell; part = l .it .part }
 
     -- the first record of a list is the last that writes there
     named-here :
         (n : ℕ) (hs : List Heard) → a < length (x .ram) → noneWrites s a (step s h x) hs → Named s a x n (h ∷ hs) (origin n)
     unfolding run
-    named-here n hs l none =
-        let shown : getD (step s h x .ram) a 0 ≡ wordAt (writesIn s h x) place =
-        rw (writes-made s h x) (last-word a (writesIn s h x) (x .ram) place l e) in
+    named-here n hs room none =
+        let word : Planned → ℕ = λ w. w .word in
+        let ws = listIn planned s h x in
+        let shown : getD (step s h x .ram) a 0 ≡ l .it .word =
+        rw (writes-made s h x, asked-in asWrite s h x) (put-last word a ws (x .ram) room ∙ last-found word a ws (getD (x .ram) a 0) l) in
         record {
           earlier = [];
           it = h;
@@ -150,11 +85,10 @@ module _ (s : Settings) (a : ℕ) where
           number = omega arith;
           accepted = writer-accepted;
           cell = refl;
-          place = place;
-          includes = e;
+          write = l;
           part = refl;
           shows = shown;
-          word = λ k f. shown ∙ writer-word k f;
+          word = λ k e. shown ∙ writer-word k e;
           nobody = none;
           stays = none-kept hs (step s h x) none;
         }
@@ -174,8 +108,7 @@ module _ (s : Settings) (a : ℕ) where
         number = omega (arith, k .number);
         accepted = k .accepted;
         cell = k .cell;
-        place = k .place;
-        includes = k .includes;
+        write = k .write;
         part = k .part;
         shows = k .shows;
         word = k .word;
@@ -191,16 +124,21 @@ module _ (s : Settings) (a : ℕ) where
 
   -- the answer after a record that does not write there, and after one that does
   who-same :
-      (h : Heard) (w : Replay) (x : State) → Alike w x → lastPlace a (writesIn s h x) ≡ 0 → replayRecord s a h w .at .who ≡ w .at .who
-  unfolding replayRecord whoNext whoAt
-  who-same h w x k e = rw (writes-alike s w x k h, e)
+      (h : Heard) (w : Replay) (x : State) → Alike w x → namesNot a (listIn planned s h x) → replayRecord s a h w .at .who ≡ w .at .who
+  unfolding replayRecord whoNext
+  who-same h w x k n =
+      let cell = planFor s (h .value) (terminalIn w) .deed .cell in
+      let says : Planned → Who = λ p. written (nextNumber (w .at .number)) cell (p .part) in
+      rw (list-alike s w x k planned h) (last-none says a (listIn planned s h x) (w .at .who) n)
 
   who-new :
-      (h : Heard) (w : Replay) (x : State) → Alike w x → (place : ℕ) (e : lastPlace a (writesIn s h x) ≡ suc place) →
-      replayRecord s a h w .at .who ≡ Written (origin h x place e (w .at .number))
-  unfolding replayRecord whoNext whoAt
-  who-new h w x k place e =
-      rw (writes-alike s w x k h, e, ne-eqb (suc place) 0 (λ q. omega arith), plan-alike s w x k (h .value))
+      (h : Heard) (w : Replay) (x : State) → Alike w x → (l : LastNaming a (listIn planned s h x)) →
+      replayRecord s a h w .at .who ≡ Written (origin h x l (w .at .number))
+  unfolding replayRecord whoNext
+  who-new h w x k l =
+      let cell = planFor s (h .value) x .deed .cell in
+      let says : Planned → Who = λ p. written (nextNumber (w .at .number)) cell (p .part) in
+      rw (list-alike s w x k planned h, plan-alike s w x k (h .value)) (last-found says a (listIn planned s h x) (w .at .who) l)
 
   told-further :
       (h : Heard) (hs : List Heard) (w : Replay) (x : State) (who : Who) →
@@ -226,17 +164,15 @@ module _ (s : Settings) (a : ℕ) where
       ⊎-elim
       (λ (n : noneWrites s a (step s h x) hs × (replay s a hs (replayRecord s a h w) .at .who ≡ replayRecord s a h w .at .who)).
       ⊎-elim
-      (λ (z : lastPlace a (writesIn s h x) ≡ 0). inl ((z, n .0), n .1 ∙ who-same h w x k z))
-      (λ (m : lastPlace a (writesIn s h x) ≡ 0 → ⊥).
-      let place = lastPlace a (writesIn s h x) - 1 in
-      let e : lastPlace a (writesIn s h x) ≡ suc place = omega arith in
+      (λ (z : namesNot a (listIn planned s h x)). inl ((z, n .0), n .1 ∙ who-same h w x k z))
+      (λ (m : LastNaming a (listIn planned s h x)).
       inr
       (record {
-        origin = origin h x place e (w .at .number);
-        is = n .1 ∙ who-new h w x k place e;
-        named = named-here h x place e (w .at .number) hs l (n .0);
+        origin = origin h x m (w .at .number);
+        is = n .1 ∙ who-new h w x k m;
+        named = named-here h x m (w .at .number) hs l (n .0);
       }))
-      (eq-or-ne (lastPlace a (writesIn s h x)) 0))
+      (names-or-not a (listIn planned s h x)))
       (λ t. inr (told-further h hs w x (replay s a hs (replayRecord s a h w) .at .who) t))
       (told hs (replayRecord s a h w) (step s h x) (record-alike s w x k a h) l′)
 

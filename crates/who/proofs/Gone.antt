@@ -1,20 +1,20 @@
 -- A part of a trace, case by case: an answer that is a refusal already, a part that is refused, one that is replayed.
 use Prim.Native.Nat.{ℕ}
 use mathlib.Core.Path.{_≡_, refl}
-use mathlib.Core.Logic.{⊎-elim}
-use mathlib.Core.Bool.{true, false}
 use mathlib.Core.List.{List, [], _∷_}
 use lib.ListN.{length}
-use lib.Dec.{eqb}
 use borrow.Author.Tests.{eq-eqb, ne-eqb}
 use Rattle.words.specs.declared.settings.Settings.{Settings}
-use Rattle.words.proofs.Basics.{yes-or-no}
 use Rattle.message.specs.Heard.{Heard}
+use Rattle.message.specs.Message.{planFor}
+use Rattle.trace.specs.Walk.{nextNumber}
 use Rattle.who_origin.specs.declared.origin.Who.{Who}
 use Rattle.who_origin.specs.declared.origin.Who.the-variants.{Refused, AsInImage, Written}
-use Rattle.who_origin.specs.Origin.{lastPlace, whoAt}
+use Rattle.writes.specs.Asked.{Planned, planned}
+use Rattle.who_origin.specs.Origin.{written}
+use Rattle.who_origin.proofs.Last.{last-holds}
 use Rattle.who.specs.Tests.{whoRefusal}
-use Rattle.who.specs.Next.{writesIn, whoNext}
+use Rattle.who.specs.Next.{listIn, whoNext}
 use Rattle.who.specs.Values.{valuesOf}
 use Rattle.who.specs.Replay.{Replay, terminalIn, replayRecord, replay, refusedAt, goneOn}
 
@@ -30,12 +30,14 @@ pub still-told :
     (s : Settings) (a : ℕ) (hs : List Heard) (w : Replay) →
     valuesOf (w .at .who) .number ≡ 0 →
     valuesOf (replay s a hs w .at .who) .number ≡ 0
-unfolding replay replayRecord whoNext whoAt valuesOf
+unfolding replay replayRecord whoNext valuesOf
 still-told s a [] w z = z
 still-told s a (h ∷ hs) w z =
-    let place = lastPlace a (writesIn s h (terminalIn w)) in
+    let x = terminalIn w in
+    let cell = planFor s (h .value) x .deed .cell in
     still-told s a hs (replayRecord s a h w)
-    (⊎-elim (λ (t : eqb place 0 ≡ true). rw t z) (λ (t : eqb place 0 ≡ false). rw t) (yes-or-no (eqb place 0)))
+    (last-holds (λ (p : Planned). written (nextNumber (w .at .number)) cell (p .part)) a (λ (who : Who). valuesOf who .number ≡ 0)
+    (λ p. refl) (listIn planned s h x) (w .at .who) z)
 
 module _ (s : Settings) (a : ℕ) (hs : List Heard) (w : Replay) where
   abbrev before : ℕ

@@ -1,3 +1,4 @@
+pub mod Listed
 pub mod Early
 pub mod Turns
 pub mod Alike

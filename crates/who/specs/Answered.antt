@@ -1,23 +1,23 @@
 -- What the answer to "Who put this word here" says: request 10 on one page.
-use Prim.Native.Nat.{ℕ, suc, _+_, _-_, _%_, _^_}
+use Prim.Native.Nat.{ℕ, _+_, _-_, _%_, _^_}
 use mathlib.Core.Path.{_≡_}
 use mathlib.Core.Logic.{_↔_}
-use mathlib.Core.List.{List, [], _∷_, _++_, map}
+use mathlib.Core.List.{List, [], _∷_, _++_}
 use lib.ListN.{length, getD}
 use Rattle.words.specs.declared.settings.Settings.{Settings}
 use Rattle.words.specs.Remembered.{nothingRemembered}
 use Rattle.memory.specs.State.{State}
-use Rattle.memory.specs.Writes.{Write}
+use Rattle.writes.specs.declared.part.Part.the-variants.{Data}
+use Rattle.writes.specs.Asked.{planned}
 use Rattle.message.specs.Heard.{Heard}
 use Rattle.message.specs.Tests.{refusalFor}
 use Rattle.message.specs.Message.{planFor, step}
 use Rattle.message.specs.Run.{run}
 use Rattle.who_origin.specs.declared.origin.Origin.{Origin}
-use Rattle.who_origin.specs.declared.origin.Part.the-variants.{Data}
 use Rattle.who_origin.specs.declared.origin.Who.the-variants.{AsInImage, Written}
 use Rattle.who.specs.Tests.{whoRefusal}
-use Rattle.who_origin.specs.Origin.{lastPlace, partAt}
-use Rattle.who.specs.Next.{writesIn}
+use Rattle.who_origin.specs.Origin.{namesNot, LastNaming}
+use Rattle.who.specs.Next.{listIn}
 use Rattle.who.specs.Values.{valuesOf}
 use Rattle.who.specs.Replay.{terminalOf, replayOf, beginning, refusedAt, asked}
 
@@ -25,18 +25,10 @@ use Rattle.who.specs.Replay.{terminalOf, replayOf, beginning, refusedAt,
 abbrev pub terminalWith : List ℕ → State
 terminalWith image = terminalOf image nothingRemembered
 
--- no write of the list names the address
-abbrev pub namesNot : ℕ → List Write → Type 0
-namesNot a ws = lastPlace a ws ≡ 0
-
 -- no record of the list writes there
 abbrev pub noneWrites : Settings → ℕ → State → List Heard → Type 0
 noneWrites s a x [] = Unit {0}
-noneWrites s a x (h ∷ hs) = namesNot a (writesIn s h x) × noneWrites s a (step s h x) hs
-
--- the word of the write at a place of a list, counted from 0
-abbrev pub wordAt : List Write → ℕ → ℕ
-wordAt ws place = getD (map (λ w. w .word) ws) place 0
+noneWrites s a x (h ∷ hs) = namesNot a (listIn planned s h x) × noneWrites s a (step s h x) hs
 
 -- The record that an answer names, among records that a terminal in the state x takes one after the other, n records
 -- after the first.
@@ -50,12 +42,11 @@ pub record Named (s : Settings) (a : ℕ) (x : State) (n : ℕ) (hs : List Heard
   -- it is accepted, and this is its cell
   pub accepted : refusalFor s it (run s earlier x) ≡ 0
   pub cell : o .cell ≡ planFor s (it .value) (run s earlier x) .deed .cell
-  -- its "list of writes includes that address", last at this place, which says what was written
-  pub place : ℕ
-  pub includes : lastPlace a (writesIn s it (run s earlier x)) ≡ suc place
-  pub part : o .part ≡ partAt (planFor s (it .value) (run s earlier x) .deed) (suc place)
+  -- its "list of writes includes that address", and the last write there says what was written
+  pub write : LastNaming a (listIn planned s it (run s earlier x))
+  pub part : o .part ≡ write .it .part
   -- "Replay up to that record shows the word just written"
-  pub shows : getD (step s it (run s earlier x) .ram) a 0 ≡ wordAt (writesIn s it (run s earlier x)) place
+  pub shows : getD (step s it (run s earlier x) .ram) a 0 ≡ write .it .word
   -- which is, where it is a data word, the record's word at that place, counted from 1
   pub word : (k : ℕ) → o .part ≡ Data k → getD (step s it (run s earlier x) .ram) a 0 ≡ getD (it .value .words) (k - 1) 0
   -- "and no later record writes there"

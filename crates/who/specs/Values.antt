@@ -1,7 +1,7 @@
 -- The number and the values of each case of an answer. "Result: the number, the rest zero".
 use Prim.Native.Nat.{ℕ}
-use Rattle.who_origin.specs.declared.origin.Part.{Part}
-use Rattle.who_origin.specs.declared.origin.Part.the-variants.{Data, Pointer, Stack, StackPointer}
+use Rattle.writes.specs.declared.part.Part.{Part}
+use Rattle.writes.specs.declared.part.Part.the-variants.{Data, Pointer, Stack, StackPointer}
 use Rattle.who_origin.specs.declared.origin.Who.{Who}
 use Rattle.who_origin.specs.declared.origin.Who.the-variants.{Refused, AsInImage, Written}
 use Rattle.who.specs.declared.values.Values.{Values}

@@ -1,8 +1,8 @@
 // An answer as numbers, for callers that have no enum.
 ghost use mathlib.Core.Path.{_≡_};
 ghost use Rattle.who.specs.Values.{partKind, partPlace, valuesOf};
-use who_origin::origin::Part;
 use who_origin::origin::Who;
+use writes::part::Part;
 
 // The number that refuses, or 0; then the number of the last record that wrote there, or 0 where the word is as in the
 // image; what it wrote, the cell of its message, and the place of the word.

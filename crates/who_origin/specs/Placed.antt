@@ -1,4 +1,4 @@
--- The same answer from the plan, by arithmetic: no list is walked.
+-- For the code alone: the same answer from the plan, by arithmetic, with no list walked. `placed` shows that it is the same.
 use Prim.Native.Nat.{ℕ, _+_, _-_}
 use mathlib.Core.Bool.{not, cond, _&&_}
 use lib.Dec.{ltb, leb, eqb}
@@ -8,7 +8,7 @@ use Rattle.windows.specs.declared.window.Window.{Window}
 use Rattle.memory.specs.Map.{lookupPlace, stackPointerPlace}
 use Rattle.plan.specs.declared.deed.Deed.{Deed}
 use Rattle.plan.specs.declared.plan.Plan.{Plan}
-use Rattle.who_origin.specs.declared.origin.Part.the-variants.{Data, Pointer, Stack, StackPointer}
+use Rattle.writes.specs.declared.part.Part.the-variants.{Data, Pointer, Stack, StackPointer}
 use Rattle.who_origin.specs.declared.origin.Who.{Who}
 use Rattle.who_origin.specs.Origin.{written}
 

@@ -10,17 +10,7 @@ use windows::window::Window;
 use words::choose::both;
 use words::settings::Area;
 use words::settings::Settings;
-
-// What a message's write is.
-pub enum Part {
-    // a data word, by its place in the message, counted from 1
-    Data(u16),
-    // the lookup pointer of the message's cell
-    Pointer,
-    // a word of the descriptor: 1 block status, 2 time tag, 3 lookup pointer before the message, 4 command
-    Stack(u16),
-    StackPointer,
-}
+use writes::part::Part;
 
 // A write: the number of its record, counted from 1, the cell of its message, and which of the message's writes it is.
 pub struct Origin {

@@ -10,16 +10,18 @@ use Rattle.memory.specs.Writes.{applyWrites}
 use Rattle.plan.specs.declared.plan.Plan.{Plan}
 use Rattle.message.specs.Heard.{Heard, heardBytes}
 use Rattle.message.specs.Tests.{refusalFor}
-use Rattle.message.specs.Message.{carriedOut, step}
+use Rattle.message.specs.Message.{planFor, carriedOut, step}
 use Rattle.message.proofs.Refusals.{refused-state, accepted-state}
 use Rattle.trace.specs.Walk.{recordAt, nextNumber}
 use Rattle.message.specs.declared.perform.Performed.{Performed}
 use Rattle.message.specs.declared.perform.Performed.the-variants.{Refused, Done}
 use Rattle.message.specs.Performed.{performedOf}
+use Rattle.who.specs.Next.{listIn}
 use Rattle.who.specs.Replay.{heardTo}
 use Rattle.who_tables.specs.Mark.{markOf}
+use Rattle.who_tables.proofs.Marked.{marks-listed}
 use Rattle.who_tables.proofs.Parts.{fill-append}
-use Rattle.who_tables.specs.Table.{markWrites, marksIn, Tables, tablesOf, terminalAt, fillRecord, fillAll}
+use Rattle.who_tables.specs.Table.{markWrites, Tables, tablesOf, terminalAt, fillRecord, fillAll}
 use Rattle.who_replay.proofs.Taking.{taken-refused, taken-done}
 
 module _ (s : Settings) (h : Heard) (t : Tables) (k : Performed) (e : k ≡ performedOf s h (terminalAt t)) where
@@ -32,7 +34,7 @@ module _ (s : Settings) (h : Heard) (t : Tables) (k : Performed) (e : k ≡ perf
       m ≡ step s h x .ram →
       n ≡ nextNumber (t .at .number) →
       tablesOf m (t .numbers) (t .marks) (record { remembered = t .at .remembered; number = n }) ≡ fillRecord s h t
-  unfolding fillRecord marksIn applyWrites
+  unfolding fillRecord listIn applyWrites
   fill-refused number m n told left counted =
       let f = taken-refused s h x number (sym e ∙ told) in
       rw (left, counted, refused-state s h x f, ne-eqb (refusalFor s h x) 0 f)
@@ -45,7 +47,7 @@ module _ (s : Settings) (h : Heard) (t : Tables) (k : Performed) (e : k ≡ perf
       numbers ≡ applyWrites (markWrites (λ part. n) s p) (t .numbers) →
       marks ≡ applyWrites (markWrites (markOf (p .deed .cell)) s p) (t .marks) →
       tablesOf m numbers marks (record { remembered = p .remembered; number = n }) ≡ fillRecord s h t
-  unfolding fillRecord marksIn carriedOut
+  unfolding fillRecord listIn carriedOut
   fill-done p m numbers marks n told left counted numbered marked =
       let f = taken-done s h x p (sym e ∙ told) in
       rw (
@@ -56,6 +58,8 @@ module _ (s : Settings) (h : Heard) (t : Tables) (k : Performed) (e : k ≡ perf
         f .plan,
         accepted-state s h x (f .none),
         eq-eqb (refusalFor s h x) 0 (f .none),
+        marks-listed (λ part. nextNumber (t .at .number)) s (planFor s (h .value) x) (h .value),
+        marks-listed (markOf (planFor s (h .value) x .deed .cell)) s (planFor s (h .value) x) (h .value),
       )
 
 -- one record more of a trace

@@ -24,8 +24,8 @@ use Rattle.message.specs.declared.perform.Performed.{Performed}
 use Rattle.message.specs.declared.perform.Performed.the-variants.{Refused, Done}
 use Rattle.message.specs.Performed.{performedOf}
 use Rattle.who_origin.specs.declared.origin.Who.{Who}
-use Rattle.who_origin.specs.Origin.{lastPlace, whoAt}
-use Rattle.who.specs.Next.{writesIn, whoNext}
+use Rattle.who_origin.specs.Origin.{lastSaid}
+use Rattle.who.specs.Next.{listIn, whoNext}
 use Rattle.who_origin.specs.Placed.{whoWrote}
 use Rattle.who.specs.Replay.{Replay, replayOf, terminalIn, replayRecord}
 use Rattle.who_origin.proofs.Placed.{placed}
@@ -61,7 +61,7 @@ module _ (s : Settings) (a : ℕ) (h : Heard) (w : Replay) (t : Performed) (e : 
       m ≡ step s h x .ram →
       n ≡ nextNumber (w .at .number) →
       replayOf m (record { remembered = w .at .remembered; number = n; who = w .at .who }) ≡ replayRecord s a h w
-  unfolding replayRecord whoNext whoAt writesIn lastPlace
+  unfolding replayRecord whoNext listIn lastSaid
   replay-refused number m n told left counted =
       let f = taken-refused s h x number (sym e ∙ told) in
       rw (left, counted, refused-state s h x f, ne-eqb (refusalFor s h x) 0 f)
@@ -73,7 +73,7 @@ module _ (s : Settings) (a : ℕ) (h : Heard) (w : Replay) (t : Performed) (e : 
         n ≡ nextNumber (w .at .number) →
         who ≡ whoWrote s p a n (w .at .who) →
         replayOf m (record { remembered = p .remembered; number = n; who = who }) ≡ replayRecord s a h w
-    unfolding replayRecord whoNext writesIn carriedOut
+    unfolding replayRecord whoNext listIn carriedOut
     replay-done m n who left counted answered =
         let k = taken-done s h x p (sym e ∙ told) in
         rw (

@@ -1,17 +1,19 @@
 -- A mark tells its kind, place and cell back; those of a plan are marks, and make entries.
-use Prim.Native.Nat.{ℕ, _+_, _-_, _/_, _%_, _≤_, _<_}
+use Prim.Native.Nat.{ℕ, _+_, _/_, _%_, _≤_, _<_}
 use native.Mathlib.Omega.{arith}
 use mathlib.Core.Path.{_≡_, refl}
-use mathlib.Core.Logic.{⊎-elim}
-use mathlib.Core.Bool.{true, false}
-use lib.Dec.{leb}
-use borrow.Author.Tests.{ne-eqb, leb-true, leb-false, le-leb, lt-ltb}
-use Rattle.words.specs.Bits.{bitOf}
-use Rattle.words.proofs.Basics.{yes-or-no}
-use Rattle.plan.specs.declared.deed.Deed.{Deed}
-use Rattle.who_origin.specs.declared.origin.Part.{Part}
-use Rattle.who_origin.specs.declared.origin.Part.the-variants.{Data, Pointer, Stack, StackPointer}
-use Rattle.who_origin.specs.Origin.{partAt, written}
+use mathlib.Core.Bool.{true}
+use borrow.Author.Tests.{ne-eqb, le-leb, lt-ltb}
+use Rattle.words.specs.declared.settings.Settings.{Settings}
+use Rattle.records.specs.declared.value.Record.{Record}
+use Rattle.memory.specs.Rows.{Each}
+use Rattle.plan.specs.declared.plan.Plan.{Plan}
+use Rattle.writes.specs.declared.part.Part.{Part}
+use Rattle.writes.specs.declared.part.Part.the-variants.{Data, Pointer, Stack, StackPointer}
+use Rattle.writes.specs.Asked.{Planned, planned}
+use Rattle.writes.specs.Writes.{listOf}
+use Rattle.writes.proofs.Listed.{each-listed}
+use Rattle.who_origin.specs.Origin.{written}
 use Rattle.who.specs.Values.{partKind, partPlace}
 use Rattle.who_tables.specs.Mark.{markOf, partMarked, entryOf, placeFits, isMark, isEntry}
 
@@ -70,30 +72,14 @@ entry-good number cell part n c h f =
     f
 
 -- the parts of a plan's writes have the place that their kind has, and it is small
-pub part-fits :
-    (d : Deed) (place : ℕ) →
-    1 ≤ place →
-    d .stored ≤ 32 →
-    (partPlace (partAt d place) < 64) × (placeFits (partKind (partAt d place)) (partPlace (partAt d place)) ≡ true)
-unfolding partAt placeFits
-part-fits d place l h =
-    let b = d .stored + bitOf (d .moves) in
-    ⊎-elim
-    (λ (t : leb place (d .stored) ≡ true).
-    let q = leb-true place (d .stored) t in
-    rw t (omega arith, rw (le-leb 1 place l, le-leb place 32 (omega arith))))
-    (λ (t : leb place (d .stored) ≡ false).
-    rw t
-    (⊎-elim
-    (λ (u : leb place b ≡ true). rw u (omega arith, refl))
-    (λ (u : leb place b ≡ false).
-    let q = leb-false place b u in
-    rw u
-    (⊎-elim
-    (λ (v : leb place (b + 4) ≡ true).
-    let r = leb-true place (b + 4) v in
-    rw v (omega arith, rw (le-leb 1 (place - b) (omega arith), le-leb (place - b) 4 (omega arith))))
-    (λ (v : leb place (b + 4) ≡ false). rw v (omega arith, refl))
-    (yes-or-no (leb place (b + 4)))))
-    (yes-or-no (leb place b))))
-    (yes-or-no (leb place (d .stored)))
+abbrev pub Fits : Planned → Type 0
+Fits w = (partPlace (w .part) < 64) × (placeFits (partKind (w .part)) (partPlace (w .part)) ≡ true)
+
+pub parts-fit : (s : Settings) (p : Plan) (v : Record) → p .deed .stored ≤ 32 → Each Fits (listOf planned s p v)
+unfolding placeFits
+parts-fit s p v h =
+    each-listed Fits planned s p v
+    (λ k l. (omega arith, rw (le-leb 1 (k + 1) (omega arith), le-leb (k + 1) 32 (omega arith))))
+    (omega arith, refl)
+    (λ k l. (omega arith, rw (le-leb 1 (k + 1) (omega arith), le-leb (k + 1) 4 (omega arith))))
+    (omega arith, refl)

@@ -1,5 +1,5 @@
 -- Every address at once: what the tables say of an address is the answer to the question about it.
-use Prim.Native.Nat.{ℕ, suc, _+_, _-_, _^_, _<_, _≤_}
+use Prim.Native.Nat.{ℕ, suc, _+_, _^_, _<_, _≤_}
 use native.Mathlib.Omega.{arith}
 use mathlib.Core.Path.{_≡_, refl, sym, ap, _∙_}
 use mathlib.Core.Logic.{⊎-elim}
@@ -15,6 +15,7 @@ use Rattle.words.specs.Refusal.{firstOf}
 use Rattle.words.specs.Settings.{settingsRefused}
 use Rattle.words.proofs.Basics.{yes-or-no, eq-or-ne}
 use Rattle.records.specs.declared.value.Record.{Record}
+use Rattle.memory.specs.Rows.{Each}
 use Rattle.memory.specs.State.{State}
 use Rattle.memory.specs.Map.{ramRefused}
 use Rattle.memory.specs.Writes.{applyWrites}
@@ -22,29 +23,28 @@ use Rattle.memory.proofs.Writes.{length-apply}
 use Rattle.lookup.specs.Target.{targetOf}
 use Rattle.plan.specs.Deed.{deedWith, deedOf}
 use Rattle.plan.proofs.Reach.{deed-stored}
-use Rattle.plan.specs.declared.plan.Plan.{Plan}
 use Rattle.plan.specs.Plan.{planWith, planOf}
-use Rattle.writes.specs.Writes.{writesOf}
 use Rattle.message.specs.Heard.{Heard}
 use Rattle.message.specs.Tests.{refusalFor}
 use Rattle.message.specs.Message.{planFor}
 use Rattle.message.proofs.Step.{cell-low}
 use Rattle.trace.specs.Walk.{nextNumber}
-use Rattle.who_origin.specs.declared.origin.Part.{Part}
+use Rattle.writes.specs.declared.part.Part.{Part}
+use Rattle.writes.specs.Asked.{Planned, planned}
 use Rattle.who_origin.specs.declared.origin.Who.{Who}
 use Rattle.who_origin.specs.declared.origin.Who.the-variants.{Refused}
 use Rattle.who.specs.Tests.{whoRefusal}
-use Rattle.who_origin.specs.Origin.{lastPlace, partAt, whoAt}
-use Rattle.who.specs.Next.{writesIn, whoNext}
+use Rattle.who_origin.specs.Origin.{namesNot, LastNaming, lastSaid, written}
+use Rattle.who_origin.proofs.Last.{names-or-not, each-last, last-none, last-found}
+use Rattle.who.specs.Next.{listIn, whoNext}
 use Rattle.who.specs.Replay.{Replay, replayOf, replayRecord, replay, beginning, refusedAt, asked}
-use Rattle.who.specs.Values.{partKind, partPlace}
 use Rattle.who.proofs.Gone.{part-replayed}
 use Rattle.who.proofs.Answers.{first-told, who-put-this-here}
-use Rattle.who_tables.specs.Mark.{markOf, entryOf, placeFits, isEntry}
+use Rattle.who_tables.specs.Mark.{markOf, entryOf, isEntry}
 use Rattle.who_tables.specs.Tests.{tablesRefused, fillRefusal, entryRefusal}
-use Rattle.who_tables.specs.Table.{entryAt, markWrites, marksIn, Tables, terminalAt, fillRecord, fillAll, refusalOf, filledWith, blankTables}
-use Rattle.who_tables.proofs.Marks.{entry-written, entry-good, part-fits}
-use Rattle.who_tables.proofs.Beside.{table-at, table-kept}
+use Rattle.who_tables.specs.Table.{entryAt, marking, Tables, terminalAt, fillRecord, fillAll, refusalOf, filledWith, blankTables}
+use Rattle.who_tables.proofs.Marks.{entry-written, entry-good, Fits, parts-fit}
+use Rattle.who_tables.proofs.Beside.{table-said}
 use Rattle.who_tables.proofs.Parts.{all-lengths, filled-done, filled-refused}
 
 -- what the tables say of an address
@@ -60,21 +60,26 @@ replayIn t a =
 abbrev Good : Tables → ℕ → Type 0
 Good t a = isEntry (getD (t .numbers) a 0) (getD (t .marks) a 0) ≡ true
 
--- ---- the marks of a plan
+-- ---- the marks of a record
 
 module _ (s : Settings) (ram : List ℕ) (remembered : Remembered) (v : Record) where
   plan-cell : planOf s ram remembered v .deed .cell < 96
   unfolding planOf planWith deedOf deedWith
   plan-cell = cell-low ram s v
 
-  abbrev part : ℕ → Part
-  part j = partAt (planOf s ram remembered v .deed) (suc j)
-
-  plan-fits : (j : ℕ) → (partPlace (part j) < 64) × (placeFits (partKind (part j)) (partPlace (part j)) ≡ true)
+  plan-stored : planOf s ram remembered v .deed .stored ≤ 32
   unfolding planOf planWith
-  plan-fits j =
-      let d = deedOf s (targetOf ram s (v .command)) v in
-      part-fits d (suc j) (omega arith) (deed-stored s (targetOf ram s (v .command)) v)
+  plan-stored = deed-stored s (targetOf ram s (v .command)) v
+
+record-fits : (s : Settings) (h : Heard) (x : State) → Each Fits (listIn planned s h x)
+unfolding listIn
+record-fits s h x =
+    ⊎-elim
+    (λ (z : refusalFor s h x ≡ 0).
+    rw (eq-eqb (refusalFor s h x) 0 z)
+    (parts-fit s (planFor s (h .value) x) (h .value) (plan-stored s (x .ram) (x .remembered) (h .value))))
+    (λ (m : refusalFor s h x ≡ 0 → ⊥). rw (ne-eqb (refusalFor s h x) 0 m) tt)
+    (eq-or-ne (refusalFor s h x) 0)
 
 -- ---- one record
 
@@ -82,106 +87,86 @@ module _ (s : Settings) (h : Heard) (t : Tables) (a : ℕ) where
   abbrev x : State
   x = terminalAt t
 
-  abbrev p : Plan
-  p = planFor s (h .value) x
+  abbrev cell : ℕ
+  cell = planFor s (h .value) x .deed .cell
 
   abbrev next : ℕ
   next = nextNumber (t .at .number)
 
-  abbrev entry : (Part → ℕ) → (Part → ℕ) → Who
-  entry f g = entryOf (getD (applyWrites (marksIn f s h x) (t .numbers)) a 0) (getD (applyWrites (marksIn g s h x) (t .marks)) a 0)
-
   abbrev numbering : Part → ℕ
   numbering part = next
 
+  abbrev ws : List Planned
+  ws = listIn planned s h x
+
+  -- what stands there before and after
+  abbrev number₀ : ℕ
+  number₀ = getD (t .numbers) a 0
+
+  abbrev mark₀ : ℕ
+  mark₀ = getD (t .marks) a 0
+
+  abbrev number₁ : ℕ
+  number₁ = lastSaid (λ w. next) a ws number₀
+
+  abbrev mark₁ : ℕ
+  mark₁ = lastSaid (λ w. markOf cell (w .part)) a ws mark₀
+
+  module _ (n : next ≡ 0 → ⊥) where
+    abbrev low : cell < 96
+    low = plan-cell s (x .ram) (x .remembered) (h .value)
+
+    -- the last write is told, or what was there
+    said-next : entryOf number₁ mark₁ ≡ whoNext s a h x next (entryOf number₀ mark₀)
+    unfolding whoNext
+    said-next =
+        let numbers : Planned → ℕ = λ w. next in
+        let marks : Planned → ℕ = λ w. markOf cell (w .part) in
+        let told : Planned → Who = λ w. written next cell (w .part) in
+        ⊎-elim
+        (λ (k : namesNot a ws).
+        rw (
+          last-none numbers a ws number₀ k,
+          last-none marks a ws mark₀ k,
+          last-none told a ws (entryOf number₀ mark₀) k,
+        ))
+        (λ (k : LastNaming a ws).
+        rw (
+          last-found numbers a ws number₀ k,
+          last-found marks a ws mark₀ k,
+          last-found told a ws (entryOf number₀ mark₀) k,
+        )
+        (entry-written next cell (k .it .part) n (omega (arith, low)) (each-last Fits a ws (record-fits s h x) k .0)))
+        (names-or-not a ws)
+
+    -- and is an entry, where that was one
+    said-good : isEntry number₀ mark₀ ≡ true → isEntry number₁ mark₁ ≡ true
+    said-good g =
+        let numbers : Planned → ℕ = λ w. next in
+        let marks : Planned → ℕ = λ w. markOf cell (w .part) in
+        ⊎-elim
+        (λ (k : namesNot a ws). rw (last-none numbers a ws number₀ k, last-none marks a ws mark₀ k) g)
+        (λ (k : LastNaming a ws).
+        let fits = each-last Fits a ws (record-fits s h x) k in
+        rw (last-found numbers a ws number₀ k, last-found marks a ws mark₀ k)
+        (entry-good next cell (k .it .part) n low (fits .0) (fits .1)))
+        (names-or-not a ws)
+
   module _ (l : a < length (t .numbers)) (m : a < length (t .marks)) (n : next ≡ 0 → ⊥) where
-    entry-found :
-        (j : ℕ) →
-        lastPlace a (writesOf s p (h .value)) ≡ suc j →
-        entryOf (getD (applyWrites (markWrites numbering s p) (t .numbers)) a 0)
-        (getD (applyWrites (markWrites (markOf (p .deed .cell)) s p) (t .marks)) a 0)
-        ≡ whoAt (p .deed) next (lastPlace a (writesOf s p (h .value))) (whoIn t a)
-    unfolding whoAt
-    entry-found j e =
-        let v = h .value in
-        rw (
-          table-at numbering s p v a j (t .numbers) l e,
-          table-at (markOf (p .deed .cell)) s p v a j (t .marks) m e,
-          e,
-          ne-eqb (suc j) 0 (λ q. omega arith),
-        )
-        (entry-written next (p .deed .cell) (partAt (p .deed) (suc j)) n
-        (omega (arith, plan-cell s (x .ram) (x .remembered) v))
-        (plan-fits s (x .ram) (x .remembered) v j .0))
+    number-said : getD (applyWrites (listIn (marking numbering) s h x) (t .numbers)) a 0 ≡ number₁
+    number-said = table-said numbering s h x a (t .numbers) l
 
-    entry-kept :
-        lastPlace a (writesOf s p (h .value)) ≡ 0 →
-        entryOf (getD (applyWrites (markWrites numbering s p) (t .numbers)) a 0)
-        (getD (applyWrites (markWrites (markOf (p .deed .cell)) s p) (t .marks)) a 0)
-        ≡ whoAt (p .deed) next (lastPlace a (writesOf s p (h .value))) (whoIn t a)
-    unfolding whoAt
-    entry-kept e =
-        let v = h .value in
-        rw (table-kept numbering s p v a (t .numbers) e, table-kept (markOf (p .deed .cell)) s p v a (t .marks) e, e)
-
-    entry-taken : refusalFor s h x ≡ 0 → entry numbering (markOf (p .deed .cell)) ≡ whoNext s a h x next (whoIn t a)
-    unfolding marksIn whoNext writesIn
-    entry-taken z =
-        rw (eq-eqb (refusalFor s h x) 0 z)
-        (⊎-elim entry-kept
-        (λ (k : lastPlace a (writesOf s p (h .value)) ≡ 0 → ⊥).
-        entry-found (lastPlace a (writesOf s p (h .value)) - 1) (omega arith))
-        (eq-or-ne (lastPlace a (writesOf s p (h .value))) 0))
-
-    entry-passed :
-        (refusalFor s h x ≡ 0 → ⊥) → entry numbering (markOf (p .deed .cell)) ≡ whoNext s a h x next (whoIn t a)
-    unfolding marksIn whoNext writesIn whoAt applyWrites lastPlace
-    entry-passed k = rw (ne-eqb (refusalFor s h x) 0 k)
-
-    entry-next : entry numbering (markOf (p .deed .cell)) ≡ whoNext s a h x next (whoIn t a)
-    entry-next = ⊎-elim entry-taken entry-passed (eq-or-ne (refusalFor s h x) 0)
-
-    -- what the tables hold of the address after the record is an entry where it was one before
-    good-found :
-        (j : ℕ) →
-        lastPlace a (writesOf s p (h .value)) ≡ suc j →
-        isEntry (getD (applyWrites (markWrites numbering s p) (t .numbers)) a 0)
-        (getD (applyWrites (markWrites (markOf (p .deed .cell)) s p) (t .marks)) a 0)
-        ≡ true
-    good-found j e =
-        let v = h .value in
-        let fits = plan-fits s (x .ram) (x .remembered) v j in
-        rw (
-          table-at numbering s p v a j (t .numbers) l e,
-          table-at (markOf (p .deed .cell)) s p v a j (t .marks) m e,
-        )
-        (entry-good next (p .deed .cell) (partAt (p .deed) (suc j)) n (plan-cell s (x .ram) (x .remembered) v) (fits .0)
-        (fits .1))
+    mark-said : getD (applyWrites (listIn (marking (markOf cell)) s h x) (t .marks)) a 0 ≡ mark₁
+    mark-said = table-said (markOf cell) s h x a (t .marks) m
 
     good-next : Good t a → Good (fillRecord s h t) a
-    unfolding fillRecord marksIn applyWrites
-    good-next g =
-        let v = h .value in
-        let last = lastPlace a (writesOf s p v) in
-        ⊎-elim
-        (λ (z : refusalFor s h x ≡ 0).
-        rw (eq-eqb (refusalFor s h x) 0 z)
-        (⊎-elim
-        (λ (e : last ≡ 0).
-        rw (
-          table-kept numbering s p v a (t .numbers) e,
-          table-kept (markOf (p .deed .cell)) s p v a (t .marks) e,
-        )
-        g)
-        (λ (k : last ≡ 0 → ⊥). good-found (last - 1) (omega arith))
-        (eq-or-ne last 0)))
-        (λ (k : refusalFor s h x ≡ 0 → ⊥). rw (ne-eqb (refusalFor s h x) 0 k) g)
-        (eq-or-ne (refusalFor s h x) 0)
+    unfolding fillRecord
+    good-next g = rw (number-said, mark-said) (said-good n g)
 
     -- replaying with the question, from what the tables say, goes on as the tables do
     record-same : replayRecord s a h (replayIn t a) ≡ replayIn (fillRecord s h t) a
     unfolding replayRecord fillRecord
-    record-same = rw (← entry-next)
+    record-same = rw (number-said, mark-said, said-next n)
 
 -- ---- records one after the other
 

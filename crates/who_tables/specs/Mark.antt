@@ -2,8 +2,8 @@
 use Prim.Native.Nat.{ℕ, _+_, _*_, _/_, _%_}
 use mathlib.Core.Bool.{Bool, cond, _&&_, _||_}
 use lib.Dec.{ltb, leb, eqb}
-use Rattle.who_origin.specs.declared.origin.Part.{Part}
-use Rattle.who_origin.specs.declared.origin.Part.the-variants.{Data, Pointer, Stack, StackPointer}
+use Rattle.writes.specs.declared.part.Part.{Part}
+use Rattle.writes.specs.declared.part.Part.the-variants.{Data, Pointer, Stack, StackPointer}
 use Rattle.who_origin.specs.declared.origin.Who.{Who}
 use Rattle.who_origin.specs.declared.origin.Who.the-variants.{AsInImage}
 use Rattle.who_origin.specs.Origin.{written}

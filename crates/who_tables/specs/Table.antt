@@ -1,28 +1,28 @@
 -- The answer for every address at once: two tables beside RAM, which a replay writes at the same places, in the same
 -- order.
-use Prim.Native.Nat.{ℕ, _+_}
+use Prim.Native.Nat.{ℕ}
 use mathlib.Core.Bool.{cond}
-use mathlib.Core.List.{List, [], _∷_, _++_}
+use mathlib.Core.List.{List, [], _∷_}
 use lib.ListN.{length, getD, replicate}
 use lib.Dec.{eqb}
 use Rattle.words.specs.declared.settings.Settings.{Settings}
 use Rattle.words.specs.Remembered.{nothingRemembered}
+use Rattle.records.specs.Value.{zeroValue}
 use Rattle.memory.specs.State.{State}
-use Rattle.memory.specs.Map.{lookupPlace, stackPointerPlace}
-use Rattle.memory.specs.Writes.{Write, applyWrites, writesTo}
-use Rattle.windows.specs.Window.{placeOf}
+use Rattle.memory.specs.Writes.{Write, applyWrites}
 use Rattle.plan.specs.declared.deed.Deed.{Deed}
 use Rattle.plan.specs.declared.entry.Entry.{Entry}
 use Rattle.plan.specs.declared.plan.Plan.{Plan}
+use Rattle.writes.specs.declared.part.Part.{Part}
+use Rattle.writes.specs.Copies.{dataList}
+use Rattle.writes.specs.Writes.{pointerList, entryList, listOf}
 use Rattle.message.specs.Heard.{Heard}
-use Rattle.message.specs.Tests.{refusalFor}
 use Rattle.message.specs.Message.{planFor, step}
 use Rattle.trace.specs.Walk.{nextNumber}
-use Rattle.who_origin.specs.declared.origin.Part.{Part}
-use Rattle.who_origin.specs.declared.origin.Part.the-variants.{Data, Pointer, Stack, StackPointer}
 use Rattle.who_origin.specs.declared.origin.Who.{Who}
 use Rattle.who_origin.specs.declared.origin.Who.the-variants.{Refused}
 use Rattle.who_tables.specs.declared.table.Filling.{Filling}
+use Rattle.who.specs.Next.{listIn}
 use Rattle.who.specs.Replay.{terminalOf}
 use Rattle.who_tables.specs.Mark.{markOf, entryOf}
 use Rattle.who_tables.specs.Tests.{fillRefusal, entryRefusal}
@@ -33,24 +33,23 @@ entryAt numbers marks a =
     cond (eqb (entryRefusal numbers marks a) 0) (entryOf (getD numbers a 0) (getD marks a 0))
     (Refused (entryRefusal numbers marks a))
 
--- the places of a plan's list of writes, in its order, with a word for what is written at each
+-- what a table takes of a write: its place, and a word for what it is
+abbrev pub marking : (Part → ℕ) → ℕ → ℕ → Part → Write
+marking f at word part = record { at = at; word = f part }
+
+-- a plan's list of writes, asked for that; no word that is written matters, so any record's will do
+abbrev pub markWrites : (Part → ℕ) → Settings → Plan → List Write
+markWrites f s p = listOf (marking f) s p zeroValue
+
+-- and its parts, as the code takes them
 abbrev pub dataMarks : (Part → ℕ) → Deed → List Write
-dataMarks f d = writesTo (placeOf (d .window)) (λ k. f (Data (k + 1))) (d .stored)
+dataMarks f d = dataList (marking f) (d .window) [] (d .stored)
 
-unfoldable pub pointerMarks : (Part → ℕ) → Settings → Deed → List Write
-pointerMarks f s d = cond (d .moves) (record { at = lookupPlace (s .area) (d .cell); word = f Pointer } ∷ []) []
+abbrev pub pointerMarks : (Part → ℕ) → Settings → Deed → List Write
+pointerMarks f s d = pointerList (marking f) s d
 
-unfoldable pub stackMarks : (Part → ℕ) → Entry → List Write
-stackMarks f e = writesTo (λ k. e .pointer + k) (λ k. f (Stack (k + 1))) 4
-
-unfoldable pub markWrites : (Part → ℕ) → Settings → Plan → List Write
-markWrites f s p =
-    (dataMarks f (p .deed) ++ pointerMarks f s (p .deed))
-    ++ (stackMarks f (p .entry) ++ (record { at = stackPointerPlace (s .area); word = f StackPointer } ∷ []))
-
--- those of a record; one that is refused writes nothing
-unfoldable pub marksIn : (Part → ℕ) → Settings → Heard → State → List Write
-marksIn f s h x = cond (eqb (refusalFor s h x) 0) (markWrites f s (planFor s (h .value) x)) []
+abbrev pub stackMarks : (Part → ℕ) → Entry → List Write
+stackMarks f e = entryList (marking f) e []
 
 -- what stands after some records: RAM, for each address the number of the last record that wrote it and its mark, where
 -- the replay stands
@@ -71,9 +70,9 @@ unfoldable pub fillRecord : Settings → Heard → Tables → Tables
 fillRecord s h t =
     record {
       ram = step s h (terminalAt t) .ram;
-      numbers = applyWrites (marksIn (λ part. nextNumber (t .at .number)) s h (terminalAt t)) (t .numbers);
+      numbers = applyWrites (listIn (marking (λ part. nextNumber (t .at .number))) s h (terminalAt t)) (t .numbers);
       marks =
-          applyWrites (marksIn (markOf (planFor s (h .value) (terminalAt t) .deed .cell)) s h (terminalAt t)) (t .marks);
+          applyWrites (listIn (marking (markOf (planFor s (h .value) (terminalAt t) .deed .cell))) s h (terminalAt t)) (t .marks);
       at = record { remembered = step s h (terminalAt t) .remembered; number = nextNumber (t .at .number) };
     }
 

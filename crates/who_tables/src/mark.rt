@@ -4,10 +4,10 @@ ghost use Rattle.who_tables.specs.Mark.{markOf, partMarked, entryOf, pla
 use who::values::part_kind;
 use who::values::part_place;
 use who_origin::origin::Origin;
-use who_origin::origin::Part;
 use who_origin::origin::Who;
 use words::choose::both;
 use words::choose::either;
+use writes::part::Part;
 
 // A write's kind, place and cell in one word.
 pub(crate) fn mark_of(cell: u16, part: Part) -> u16

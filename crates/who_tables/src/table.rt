@@ -14,11 +14,11 @@ use memory::ram::word_at;
 use plan::deed::Deed;
 use plan::entry::Entry;
 use plan::plan::Plan;
-use who_origin::origin::Part;
 use who_origin::origin::Who;
 use windows::window::place;
 use words::remembered::Remembered;
 use words::settings::Settings;
+use writes::part::Part;
 
 // What stands between two parts of a trace, beside RAM and the tables: what is remembered, and the number of the last
 // record.

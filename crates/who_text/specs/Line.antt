@@ -7,8 +7,8 @@ use Rattle.memory.specs.Kind.{kindNumbered}
 use Rattle.text.specs.Text.{hexText, decimalText, newline}
 use Rattle.text.specs.Line.{column}
 use Rattle.wording.specs.Wording.{kindName, comma, refusedLine}
-use Rattle.who_origin.specs.declared.origin.Part.{Part}
-use Rattle.who_origin.specs.declared.origin.Part.the-variants.{Data, Pointer, Stack, StackPointer}
+use Rattle.writes.specs.declared.part.Part.{Part}
+use Rattle.writes.specs.declared.part.Part.the-variants.{Data, Pointer, Stack, StackPointer}
 use Rattle.who_origin.specs.declared.origin.Origin.{Origin}
 use Rattle.who_origin.specs.declared.origin.Who.{Who}
 use Rattle.who_origin.specs.declared.origin.Who.the-variants.{Refused, AsInImage, Written}

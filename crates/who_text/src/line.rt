@@ -7,10 +7,10 @@ use text::line::put_newline;
 use text::line::put_number;
 use text::text::put_bytes;
 use who_origin::origin::Origin;
-use who_origin::origin::Part;
 use who_origin::origin::Who;
 use wording::wording::put_kind;
 use wording::wording::put_refused;
+use writes::part::Part;
 
 // A cell by its kind and its subaddress.
 fn put_cell_name(out: &mut [u8], at: usize, cell: u16) -> usize

@@ -13,8 +13,9 @@ use Rattle.memory.specs.Map.{lookupTable, stackPointerPlace}
 use Rattle.plan.specs.declared.deed.Deed.{Deed}
 use Rattle.plan.specs.declared.entry.Entry.{Entry}
 use Rattle.plan.specs.declared.plan.Plan.{Plan}
-use Rattle.writes.specs.Writes.{pointerWrites, descriptorOf, entryWrites, deedWrites, stackWrites, writesOf}
-use Rattle.memory.specs.Writes.{applyWrites, writesTo}
+use Rattle.writes.specs.Writes.{pointerList, descriptorOf, entryList, deedList, stackList, listOf, pointerWrites, entryWrites, writesOf}
+use Rattle.memory.specs.Rows.{row}
+use Rattle.memory.specs.Writes.{applyWrites}
 use Rattle.writes.specs.Copies.{dataWrites, sentWrites}
 use Rattle.writes.specs.Reply.{sentBehind, replyWrites}
 use Rattle.memory.proofs.Writes.{apply-append}
@@ -24,11 +25,11 @@ pub pointer-moved :
     (s : Settings) (d : Deed) (table : ℕ) (m m₁ : List ℕ) → d .moves ≡ true → table ≡ lookupTable (s .area) →
     m₁ ≡ set m (table + d .cell) (d .after) →
     m₁ ≡ applyWrites (pointerWrites s d) m
-unfolding pointerWrites applyWrites
+unfolding pointerList applyWrites
 pointer-moved s d table m m₁ e t e₁ = rw (e, e₁, t)
 
 pub pointer-kept : (s : Settings) (d : Deed) (m : List ℕ) → d .moves ≡ false → m ≡ applyWrites (pointerWrites s d) m
-unfolding pointerWrites applyWrites
+unfolding pointerList applyWrites
 pointer-kept s d m e = rw e
 
 -- the four stack words, one after the other
@@ -38,7 +39,7 @@ pub entry-put :
     m₃ ≡ set m₂ (e .pointer + 2) (d .third) →
     m₄ ≡ set m₃ (e .pointer + 3) (v .command) →
     m₄ ≡ applyWrites (entryWrites e (descriptorOf d v)) m
-unfolding entryWrites descriptorOf writesTo applyWrites
+unfolding entryList descriptorOf row applyWrites
 entry-put e d v m m₁ m₂ m₃ m₄ e₁ e₂ e₃ e₄ = rw (e₄, e₃, e₂, e₁, add-zero)
 
 -- the whole plan
@@ -49,7 +50,7 @@ pub plan-carried :
     m₃ ≡ applyWrites (entryWrites (p .entry) (descriptorOf (p .deed) v)) m₂ →
     at ≡ stackPointerPlace (s .area) → m₄ ≡ set m₃ at (p .entry .after) →
     m₄ ≡ applyWrites (writesOf s p v) m
-unfolding writesOf deedWrites stackWrites applyWrites
+unfolding listOf deedList stackList applyWrites
 plan-carried s p v at m m₁ m₂ m₃ m₄ e₁ e₂ e₃ a e₄ =
     rw (apply-append, apply-append, apply-append, ← e₁, ← e₂, ← e₃, ← a) e₄
 
@@ -80,7 +81,7 @@ reply-sent ram d r r₁ r₂ a e₁ e₂ = rw (a, e₂, e₁)
 pub reply-status :
     (ram : List ℕ) (d : Deed) (r r₁ : List ℕ) → d .answered ≡ true → d .sent ≡ 0 → r₁ ≡ set r 0 (d .status) →
     r₁ ≡ applyWrites (replyWrites ram d) r
-unfolding replyWrites applyWrites writesTo sentBehind
+unfolding replyWrites applyWrites row sentBehind
 reply-status ram d r r₁ a n e = rw (a, n, e)
 
 pub reply-none : (ram : List ℕ) (d : Deed) (r : List ℕ) → d .answered ≡ false → r ≡ applyWrites (replyWrites ram d) r

@@ -5,7 +5,7 @@ use mathlib.Core.Path.{_≡_, refl, sym, _∙_}
 use mathlib.Core.Logic.{⊎-elim}
 use mathlib.Core.Bool.{Bool, true, false, not, _&&_}
 use mathlib.Core.List.{List, [], _∷_, _++_, map, append-assoc}
-use lib.ListN.{length, getD, set, take, drop, length-set, length-append, length-map, take-append-drop}
+use lib.ListN.{length, getD, set, take, drop, length-set, length-map, take-append-drop}
 use lib.Seq.{take-suc-set, drop-set-lt, getD-append-add, getD-drop}
 use Rattle.records.specs.declared.value.Record.{Record}
 use Rattle.words.specs.declared.settings.Settings.{Settings}
@@ -20,6 +20,8 @@ use Rattle.plan.specs.declared.deed.Deed.{Deed}
 use Rattle.lookup.specs.declared.target.Target.{Target}
 use Rattle.plan.specs.Act.{wordsSent, actWith, actOf}
 use Rattle.plan.specs.Deed.{deedWith, deedOf}
+use Rattle.memory.specs.Rows.{row}
+use Rattle.memory.proofs.Rows.{length-row}
 use Rattle.memory.specs.Writes.{Write, applyWrites, writesTo}
 use Rattle.writes.specs.Reply.{sentBehind, replyWrites, replyWords}
 
@@ -34,16 +36,11 @@ row-append from (x ∷ xs) ys h k =
     let e : from + suc (length xs) ≡ suc from + length xs = omega arith in
     (h .0, row-append (suc from) xs ys (h .1) (rw e at k))
 
-pub length-writes : (place word : ℕ → ℕ) (n : ℕ) → length (writesTo place word n) ≡ n
-unfolding writesTo
-length-writes place word zero = refl
-length-writes place word (suc n) = simp (length-append, length-writes place word n) (omega arith)
-
 row-writes : (word : ℕ → ℕ) (n : ℕ) → InRow 1 (writesTo (λ k. k + 1) word n)
-unfolding writesTo
+unfolding row
 row-writes word zero = tt
 row-writes word (suc n) =
-    let e = length-writes (λ k. k + 1) word n in
+    let e = length-row {A = Write} (λ k. record { at = k + 1; word = word k }) n in
     row-append 1 (writesTo (λ k. k + 1) word n) (record { at = n + 1; word = word n } ∷ []) (row-writes word n)
     (rw e (omega arith, tt))
 
@@ -82,7 +79,7 @@ unfolding sentBehind
 behind-length ram w sent third alone =
     ⊎-elim
     (λ (e : (eqb sent 1 && alone) ≡ true). rw e (sym (eqb-true sent 1 (and-left (eqb sent 1) alone e))))
-    (λ (e : (eqb sent 1 && alone) ≡ false). rw e (length-writes (λ k. k + 1) (λ k. getD ram (placeOf w k) 0) sent))
+    (λ (e : (eqb sent 1 && alone) ≡ false). rw e (length-row {A = Write} (λ k. record { at = k + 1; word = getD ram (placeOf w k) 0 }) sent))
     (yes-or-no (eqb sent 1 && alone))
 
 module _ (ram : List ℕ) (d : Deed) where

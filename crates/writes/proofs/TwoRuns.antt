@@ -13,7 +13,8 @@ use Rattle.words.proofs.Basics.{and-left, and-right}
 use Rattle.windows.specs.declared.window.Window.{Window}
 use Rattle.windows.specs.Window.{placeOf, rollsOver}
 use Rattle.windows.proofs.Wrap.{place-straight, place-wrapped}
-use Rattle.memory.specs.Writes.{Write, applyWrites, writesTo}
+use Rattle.memory.specs.Rows.{row}
+use Rattle.memory.specs.Writes.{applyWrites, writesTo}
 use Rattle.memory.proofs.Writes.{apply-append}
 use Rattle.writes.specs.declared.runs.Runs.{Runs}
 use Rattle.writes.specs.Copies.{dataWrites}
@@ -64,7 +65,7 @@ two-runs w n r o l e =
 writes-same :
     (p q w v : ℕ → ℕ) (n : ℕ) →
     ((k : ℕ) → k < n → p k ≡ q k) → ((k : ℕ) → k < n → w k ≡ v k) → writesTo p w n ≡ writesTo q v n
-unfolding writesTo
+unfolding row
 writes-same p q w v zero h g = refl
 writes-same p q w v (suc n) h g =
     rw (writes-same p q w v n (λ k l. h k (omega arith)) (λ k l. g k (omega arith)), h n (omega arith), g n (omega arith))
@@ -73,7 +74,7 @@ writes-same p q w v (suc n) h g =
 writes-join :
     (p w : ℕ → ℕ) (m n : ℕ) →
     writesTo p w (m + n) ≡ writesTo p w m ++ writesTo (λ k. p (m + k)) (λ k. w (m + k)) n
-unfolding writesTo
+unfolding row
 writes-join p w m zero = rw (add-zero, append-nil)
 writes-join p w m (suc n) =
     let e : m + suc n ≡ suc (m + n) = omega arith in rw (e, writes-join p w m n, append-assoc)

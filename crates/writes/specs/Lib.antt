@@ -1,3 +1,4 @@
+pub mod Asked
 pub mod Copies
 pub mod Runs
 pub mod Writes

@@ -2,10 +2,11 @@
 use borrow.Author.Needs.{needs}
 use Prim.Native.Nat.{_+_, _-_, _≤_}
 use mathlib.Core.Path.{_≡_, refl}
+use Rattle.memory.specs.Rows.{row}
 use Rattle.memory.specs.Writes.{applyWrites, writesTo}
 use Rattle.memory.proofs.Writes.{apply-more, length-apply}
 use Rattle.windows.specs.Window.{placeOf}
-use Rattle.who_origin.specs.declared.origin.Part.the-variants.{Data}
+use Rattle.writes.specs.declared.part.Part.the-variants.{Data}
 use Rattle.who_tables.specs.Mark.{markOf}
 use native.Mathlib.Omega.{arith}
 use Rattle.who_tables.proofs.table.mark_data.Statement.{statement}
@@ -21,7 +22,7 @@ abbrev μ-loop : tie.MeasureT-loop
 μ-loop numbers₀ marks₀ number w cell n k₀ numbers marks k = n - k
 
 loop-holds : tie.Need-loop-holds Inv-loop μ-loop
-unfolding applyWrites writesTo
+unfolding applyWrites row
 loop-holds c = (omega arith, (refl, refl))
 
 add-t11 : tie.Need-add-t11 Inv-loop μ-loop

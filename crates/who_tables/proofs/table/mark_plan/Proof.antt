@@ -1,7 +1,7 @@
 -- `mark_plan` meets its contract: the parts of the list of marks, one after the other.
 use borrow.Author.Needs.{needs}
 use Prim.Native.Nat.{ℕ}
-use Rattle.who_origin.specs.declared.origin.Part.{Part}
+use Rattle.writes.specs.declared.part.Part.{Part}
 use Rattle.who_tables.specs.Mark.{markOf}
 use Rattle.who_tables.proofs.Marked.{plan-marked}
 use Rattle.who_tables.proofs.table.mark_plan.Statement.{statement}

@@ -2,11 +2,12 @@
 use borrow.Author.Needs.{needs}
 use Prim.Native.Nat.{_+_, _-_, _≤_}
 use mathlib.Core.Path.{_≡_, refl}
+use Rattle.memory.specs.Rows.{row}
 use Rattle.memory.specs.Writes.{applyWrites, writesTo}
 use Rattle.memory.proofs.Writes.{apply-more, length-apply}
-use Rattle.who_origin.specs.declared.origin.Part.the-variants.{Stack}
+use Rattle.writes.specs.declared.part.Part.the-variants.{Stack}
 use Rattle.who_tables.specs.Mark.{markOf}
-use Rattle.who_tables.specs.Table.{stackMarks}
+use Rattle.writes.specs.Writes.{entryList}
 use native.Mathlib.Omega.{arith}
 use Rattle.who_tables.proofs.table.mark_stack.Statement.{statement}
 use Rattle.who_tables.proofs.table.mark_stack.Tie as tie
@@ -24,7 +25,7 @@ cast-pointer : tie.Need-cast-pointer Inv-loop μ-loop
 cast-pointer c = search needs
 
 loop-holds : tie.Need-loop-holds Inv-loop μ-loop
-unfolding applyWrites writesTo
+unfolding applyWrites row
 loop-holds c = (omega arith, (refl, refl))
 
 cast-t10 : tie.Need-cast-t10 Inv-loop μ-loop
@@ -66,7 +67,7 @@ same-length-2 : tie.Need-same-length-2 Inv-loop μ-loop
 same-length-2 c = rw (c .before .loop .inv .1 .1, length-apply)
 
 returns : tie.Need-returns Inv-loop μ-loop
-unfolding stackMarks
+unfolding entryList
 returns c = let e : c .before .loop .k ≡ 4 = omega arith in rw e at (c .before .loop .inv .1)
 
 pub mark-stack-spec : {M : Type 1} → statement M

@@ -4,7 +4,8 @@ use native.Mathlib.Omega.{arith}
 use Prim.Native.Nat.{_≤_, _-_}
 use mathlib.Core.Path.{_≡_, refl}
 use lib.ListN.{length}
-use Rattle.memory.specs.Writes.{applyWrites, writesTo}
+use Rattle.memory.specs.Rows.{row}
+use Rattle.memory.specs.Writes.{applyWrites}
 use Rattle.memory.proofs.Writes.{apply-more, length-apply}
 use Rattle.writes.specs.Runs.{runWrites}
 use Rattle.writes.proofs.runs.copy_run.Statement.{statement}
@@ -18,7 +19,7 @@ abbrev μ-loop : tie.MeasureT-loop
 μ-loop to₀ at from first n k₀ to k = n - k
 
 loop-holds : tie.Need-loop-holds Inv-loop μ-loop
-unfolding applyWrites writesTo
+unfolding applyWrites row
 loop-holds c = (omega arith, (refl, refl))
 
 add-to : tie.Need-add-to Inv-loop μ-loop

@@ -3,7 +3,8 @@ use borrow.Author.Needs.{needs}
 use Prim.Native.Nat.{_≤_, _-_}
 use native.Mathlib.Omega.{arith}
 use mathlib.Core.Path.{_≡_, refl}
-use Rattle.memory.specs.Writes.{applyWrites, writesTo}
+use Rattle.memory.specs.Rows.{row}
+use Rattle.memory.specs.Writes.{applyWrites}
 use Rattle.writes.specs.Copies.{sentWrites}
 use Rattle.memory.proofs.Writes.{apply-more, length-apply}
 use Rattle.writes.proofs.send.send_each.Statement.{statement}
@@ -16,7 +17,7 @@ abbrev μ-loop : tie.MeasureT-loop
 μ-loop ram reply₀ w n k₀ reply k = n - k
 
 loop-holds : tie.Need-loop-holds Inv-loop μ-loop
-unfolding applyWrites writesTo
+unfolding applyWrites row
 loop-holds c = (omega arith, refl)
 
 cast-put : tie.Need-cast-put Inv-loop μ-loop

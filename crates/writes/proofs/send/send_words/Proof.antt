@@ -4,7 +4,8 @@ use borrow.Author.Needs.{needs}
 use native.Mathlib.Omega.{arith}
 use lib.ListN.{length}
 use borrow.Author.Tests.{ltb-true}
-use Rattle.memory.specs.Writes.{applyWrites, writesTo}
+use Rattle.memory.specs.Rows.{row}
+use Rattle.memory.specs.Writes.{applyWrites}
 use Rattle.writes.proofs.TwoRuns.{goes-once-says, two-runs, sent-in-runs}
 use Rattle.writes.proofs.send.send_words.Statement.{statement}
 use Rattle.writes.proofs.send.send_words.Tie as tie
@@ -65,7 +66,7 @@ same-length : tie.Need-same-length
 same-length c = search needs
 
 returns : tie.Need-returns
-unfolding applyWrites writesTo
+unfolding applyWrites row
 returns c =
     let put = c .before .before in
     let read = put .before in

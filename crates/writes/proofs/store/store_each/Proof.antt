@@ -4,7 +4,8 @@ use native.Mathlib.Omega.{arith}
 use Prim.Native.Nat.{_≤_, _-_}
 use mathlib.Core.Path.{_≡_, refl}
 use Rattle.writes.specs.Copies.{dataWrites}
-use Rattle.memory.specs.Writes.{applyWrites, writesTo}
+use Rattle.memory.specs.Rows.{row}
+use Rattle.memory.specs.Writes.{applyWrites}
 use Rattle.memory.proofs.Writes.{apply-more, length-apply}
 use Rattle.writes.proofs.store.store_each.Statement.{statement}
 use Rattle.writes.proofs.store.store_each.Tie as tie
@@ -16,7 +17,7 @@ abbrev μ-loop : tie.MeasureT-loop
 μ-loop ram₀ w words n k₀ ram k = n - k
 
 loop-holds : tie.Need-loop-holds Inv-loop μ-loop
-unfolding applyWrites writesTo
+unfolding applyWrites row
 loop-holds c = (omega arith, refl)
 
 place-requires : tie.Need-place-requires Inv-loop μ-loop

@@ -3,7 +3,8 @@
 use borrow.Author.Needs.{needs}
 use native.Mathlib.Omega.{arith}
 use borrow.Author.Tests.{leb-true}
-use Rattle.memory.specs.Writes.{applyWrites, writesTo}
+use Rattle.memory.specs.Rows.{row}
+use Rattle.memory.specs.Writes.{applyWrites}
 use Rattle.writes.proofs.TwoRuns.{goes-once-says, two-runs, stored-in-runs}
 use Rattle.writes.proofs.store.store_some.Statement.{statement}
 use Rattle.writes.proofs.store.store_some.Tie as tie
@@ -66,7 +67,7 @@ same-length : tie.Need-same-length
 same-length c = search needs
 
 returns : tie.Need-returns
-unfolding applyWrites writesTo
+unfolding applyWrites row
 returns c =
     let put = c .before .before in
     let at = put .before in

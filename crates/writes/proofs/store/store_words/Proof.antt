@@ -1,6 +1,7 @@
 -- `store_words` meets its contract: no word is no write.
 use borrow.Author.Needs.{needs}
-use Rattle.memory.specs.Writes.{applyWrites, writesTo}
+use Rattle.memory.specs.Rows.{row}
+use Rattle.memory.specs.Writes.{applyWrites}
 use Rattle.writes.proofs.store.store_words.Statement.{statement}
 use Rattle.writes.proofs.store.store_words.Tie as tie
 
@@ -14,7 +15,7 @@ returns : tie.Need-returns
 returns c = search needs
 
 returns-2 : tie.Need-returns-2
-unfolding applyWrites writesTo
+unfolding applyWrites row
 returns-2 c = rw (c .if1 .left)
 
 pub store-words-spec : {M : Type 1} → statement M
