@@ -43,11 +43,11 @@ same-length-4 c = search needs
 
 returns-2 : tie.Need-returns-2
 returns-2 c = let marked = c .before .before .before .before in
-    let told = marked .before .before .before .before in
+    let told = marked .before .before .before .before .before in
     let k = told .before .before .before .before in
     let counted = k .before .before in
     let a = counted .before .before .before .before .before .before .args in
-    fill-done (a .s) _ (tablesOf (a .ram .now) (a .numbers .now) (a .marks .now) (a .at)) _ (k .take-record .ensures .0) _ _ _ _ _ _
+    fill-done (a .s) _ (tablesOf (a .ram .now) (a .numbers .now) (a .marks .now) (a .at)) _ (k .take-record .ensures .0) _ _ _ _ _
     (told .taken .given .1)
     (k .take-record .ensures .1)
     (counted .wrapping-add-u64 .ensures)

@@ -36,11 +36,11 @@ same-length-2 : tie.Need-same-length-2
 same-length-2 c = search needs
 
 returns-2 : tie.Need-returns-2
-returns-2 c = let told = c .before .before in
+returns-2 c = let told = c .before .before .before in
     let k = told .before .before .before .before in
     let counted = k .before .before in
     let a = counted .before .before .before .before .args in
-    replay-done (a .s) _ _ (replayOf (a .ram .now) (a .at)) _ (k .take-record .ensures .0) _ _ (told .taken .given .1) _ _ _
+    replay-done (a .s) _ _ (replayOf (a .ram .now) (a .at)) _ (k .take-record .ensures .0) _ (told .taken .given .1) _ _ _
     (k .take-record .ensures .1)
     (counted .wrapping-add-u64 .ensures)
     (c .who-wrote .ensures)
