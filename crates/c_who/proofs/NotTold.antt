@@ -3,7 +3,7 @@ use Prim.Native.Nat.{ℕ}
 use mathlib.Core.Path.{_≡_, refl}
 use mathlib.Core.List.{List}
 use lib.ListN.{length, replicate}
-use lib.Seq.{set-getD}
+use borrow.Author.Tests.{ne-eqb}
 use Rattle.words.specs.declared.settings.Settings.{Settings}
 use Rattle.message.specs.Heard.{Heard}
 use Rattle.who_origin.specs.declared.origin.Who.{Who}
@@ -13,18 +13,15 @@ use Rattle.who.specs.Replay.{refusedAt, asked}
 use Rattle.who.specs.Values.{valuesOf}
 use Rattle.who.proofs.Answers.{who-put-this-here}
 use Rattle.who_tables.specs.Table.{refusalOf}
-use Rattle.who_tables.proofs.Parts.{filled-refused}
-use Rattle.c_who.specs.Origins.{partWords, LentTables, fillingFrom, tablesIn, tablesBack, tablesAfter}
-use Rattle.c_words.proofs.Kept.{remembered-kept}
+use Rattle.c_who.specs.Origins.{partWords, LentTables, tablesIn, tablesAfter}
 
 -- the tables' call: everything keeps its contents
 pub fill-refused :
     (s : Settings) (hs : List Heard) (l : LentTables) →
     (refusalOf s (tablesIn l) ≡ 0 → ⊥) →
     tablesAfter s hs l ≡ l
-unfolding tablesAfter tablesBack fillingFrom
-fill-refused s hs l m =
-    rw (filled-refused s hs (tablesIn l) m, remembered-kept (l .remembered), set-getD (l .records) 0 0)
+unfolding tablesAfter
+fill-refused s hs l m = rw (ne-eqb (refusalOf s (tablesIn l)) 0 m)
 
 -- an answer that is a refusal: no record, no part
 pub not-told :

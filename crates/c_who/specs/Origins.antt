@@ -1,12 +1,14 @@
 -- Who put a word where it is (document 02, request 10) as plain words.
 use Prim.Native.Nat.{ℕ}
+use mathlib.Core.Bool.{cond}
 use mathlib.Core.List.{List, [], _∷_}
 use lib.ListN.{getD}
+use lib.Dec.{eqb}
 use Rattle.words.specs.declared.settings.Settings.{Settings}
 use Rattle.message.specs.Heard.{Heard}
 use Rattle.who_tables.specs.declared.table.Filling.{Filling}
 use Rattle.who.specs.declared.values.Values.{Values}
-use Rattle.who_tables.specs.Table.{Tables, tablesOf, filledWith}
+use Rattle.who_tables.specs.Table.{Tables, tablesOf, refusalOf, filledWith}
 use Rattle.c_words.specs.Over.{over}
 use Rattle.c_words.specs.Setup.{rememberedFrom, rememberedWords}
 
@@ -43,6 +45,6 @@ tablesBack l t =
       records = over (l .records) (t .at .number ∷ []);
     }
 
--- and what stands in it after a part of a trace
+-- and what stands in it after a part of a trace; a refusal writes nothing
 unfoldable pub tablesAfter : Settings → List Heard → LentTables → LentTables
-tablesAfter s hs l = tablesBack l (filledWith s hs (tablesIn l))
+tablesAfter s hs l = cond (eqb (refusalOf s (tablesIn l)) 0) (tablesBack l (filledWith s hs (tablesIn l))) l

@@ -79,9 +79,12 @@ pub extern "C" fn solkverva_who_fill(
     let s = settings_from(settings);
     let at = filling_from(remembered, records);
     let filled = fill(ram, numbers, marks, s, at, trace);
+    if filled.number != 0 {
+        return filled.number;
+    }
     let end = filled.at;
     put_filling(remembered, records, end);
-    filled.number
+    0
 }
 
 // What filled tables say of an address.

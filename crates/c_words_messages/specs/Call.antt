@@ -1,6 +1,8 @@
 -- One message asked for by a caller: the number that the call returns, and every word that it leaves in what is lent.
 use Prim.Native.Nat.{ℕ}
+use mathlib.Core.Bool.{cond}
 use mathlib.Core.List.{List}
+use lib.Dec.{eqb}
 use Rattle.words.specs.declared.settings.Settings.{Settings}
 use Rattle.memory.specs.State.{State, stateOf}
 use Rattle.message.specs.declared.answer.Answer.{Answer}
@@ -25,13 +27,15 @@ lentOf ram reply remembered answer = record { ram = ram; reply = reply; remember
 abbrev pub stateIn : Lent → State
 stateIn l = stateOf (l .ram) (l .reply) (rememberedFrom (l .remembered))
 
--- a state and an answer put back into it
+-- a state and an answer put back into it. The remembered words are written only where the message is done: of a refusal
+-- "RAM, reply and remembered state keep their contents", whatever words say it.
 unfoldable pub handedBack : Lent → State → Answer → Lent
 handedBack l x a =
     record {
       ram = x .ram;
       reply = x .reply;
-      remembered = over (l .remembered) (rememberedWords (x .remembered));
+      remembered =
+          cond (eqb (a .number) 0) (over (l .remembered) (rememberedWords (x .remembered))) (l .remembered);
       answer = over (l .answer) (answerWords a);
     }
 

@@ -2,11 +2,14 @@
 use Prim.Native.Nat.{ℕ, _≤_}
 use native.Mathlib.Omega.{arith}
 use mathlib.Core.Path.{_≡_, refl, sym, ap, _∙_}
+use mathlib.Core.Logic.{⊎-elim}
 use mathlib.Core.List.{List, [], _∷_}
-use lib.ListN.{length, length-set}
-use lib.Seq.{sets, length-sets}
+use lib.ListN.{length}
+use lib.Seq.{length-sets}
+use borrow.Author.Tests.{eq-eqb, ne-eqb}
 use Rattle.words.specs.declared.settings.Settings.{Settings}
 use Rattle.words.specs.declared.remembered.Remembered.{Remembered}
+use Rattle.words.proofs.Basics.{eq-or-ne}
 use Rattle.memory.specs.State.{State}
 use Rattle.c_words.specs.Over.{over}
 use Rattle.c_words.specs.Setup.{rememberedFrom, rememberedWords}
@@ -51,18 +54,31 @@ module _ (e : Exported) (m : Message) (a : Shown e m) (long : 2 ≤ length (e .b
   unfolding handedBack
   ram-left = ap (λ (l : Lent). l .ram) (a .after)
 
+  -- a refusal puts nothing there, and its message leaves what was remembered
+  refused-left : (m .answer .number ≡ 0 → ⊥) → rememberedFrom (e .before .remembered) ≡ m .after .remembered
+  refused-left n = sym (ap (λ (x : State). x .remembered) (a .meets .first .kept n ∙ a .before))
+
   remembered-left : stateIn (e .after) .remembered ≡ m .after .remembered
   unfolding handedBack
   remembered-left =
       ap (λ (l : Lent). rememberedFrom (l .remembered)) (a .after)
-      ∙ remembered-back (e .before .remembered) (m .after .remembered) long
+      ∙ ⊎-elim
+      (λ (z : m .answer .number ≡ 0).
+      rw (eq-eqb (m .answer .number) 0 z) (remembered-back (e .before .remembered) (m .after .remembered) long))
+      (λ (n : m .answer .number ≡ 0 → ⊥). rw (ne-eqb (m .answer .number) 0 n) (refused-left n))
+      (eq-or-ne (m .answer .number) 0)
 
   long-left : 2 ≤ length (e .after .remembered)
   unfolding handedBack
   long-left =
       let same : length (e .after .remembered) ≡ length (e .before .remembered) =
       ap (λ (l : Lent). length (l .remembered)) (a .after)
-      ∙ length-sets (e .before .remembered) 0 (rememberedWords (m .after .remembered)) in
+      ∙ ⊎-elim
+      (λ (z : m .answer .number ≡ 0).
+      rw (eq-eqb (m .answer .number) 0 z)
+      (length-sets (e .before .remembered) 0 (rememberedWords (m .after .remembered))))
+      (λ (n : m .answer .number ≡ 0 → ⊥). rw (ne-eqb (m .answer .number) 0 n))
+      (eq-or-ne (m .answer .number) 0) in
       rw same long
 
 pub handed-words :
