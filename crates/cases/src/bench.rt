@@ -1,8 +1,10 @@
 // What stands between two lines of a script: settings, the remembered state, how many words of RAM and reply are lent,
-// and the record at hand.
+// the record at hand, and the controller's machine.
 use crate::lines::Numbers;
 use crate::names;
 use crate::ram::fill;
+use control::machine::Machine;
+use control::machine::machine_at;
 use memory::ram::put;
 use message::answer::Outcome;
 use records::value::Record;
@@ -16,6 +18,7 @@ pub(crate) struct Bench {
     pub ram: usize,
     pub room: usize,
     pub record: Record,
+    pub machine: Machine,
 }
 
 // RAM of zeros and a reply of EEEE; 4,096 and 33 words of them are lent.
@@ -25,12 +28,14 @@ pub(crate) fn cleared(ram: &mut [u16; 4352], reply: &mut [u16; 64]) -> Bench {
     let settings = settings(5, 0, 256, 1);
     let remembered = words::remembered::nothing_remembered();
     let record = records::value::zero_value();
+    let machine = machine_at(0, 0);
     Bench {
         settings,
         remembered,
         ram: 4096,
         room: 33,
         record,
+        machine,
     }
 }
 
@@ -68,6 +73,14 @@ fn record_of(n: Numbers, from: u16) -> Record {
     }
 }
 
+fn with_word(v: Record, at: u16, word: u16) -> Record {
+    let mut words = v.words;
+    put(&mut words, at as usize, word);
+    let mut changed = v;
+    changed.words = words;
+    changed
+}
+
 // The bench after a line that changes the settings, the lengths, the transmit command, the record, or a word of the
 // record.
 pub(crate) fn built(b: Bench, name: u64, n: Numbers) -> Bench {
@@ -87,10 +100,7 @@ pub(crate) fn built(b: Bench, name: u64, n: Numbers) -> Bench {
             next.record = v;
         }
         names::WORD => {
-            let mut v = b.record;
-            let mut words = v.words;
-            put(&mut words, n.a as usize, n.b);
-            v.words = words;
+            let v = with_word(b.record, n.a, n.b);
             next.record = v;
         }
         _ => {

@@ -3,6 +3,7 @@
 mod bench;
 mod blocks;
 mod commands;
+mod controller;
 mod lines;
 mod long;
 mod messages;

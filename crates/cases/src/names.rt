@@ -51,6 +51,16 @@ pub(crate) const PART: u64 = 0x70_61_72_74; // part
 
 pub(crate) const HEARD: u64 = 0x68_65_61_72_64; // heard
 
+pub(crate) const OPCODE: u64 = 0x6F_70_63_6F_64_65; // opcode
+
+pub(crate) const FLAGS: u64 = 0x66_6C_61_67_73; // flags
+
+pub(crate) const OUTCOME: u64 = 0x6F_75_74_63_6F_6D_65; // outcome
+
+pub(crate) const CONTROL: u64 = 0x63_6F_6E_74_72_6F_6C; // control
+
+pub(crate) const ON: u64 = 0x6F_6E; // on
+
 pub(crate) const RAM: u64 = 0x72_61_6D; // ram
 
 pub(crate) const REPLY: u64 = 0x72_65_70_6C_79; // reply

@@ -3,6 +3,7 @@ use crate::bench;
 use crate::bench::Bench;
 use crate::blocks;
 use crate::commands;
+use crate::controller;
 use crate::lines::Numbers;
 use crate::lines::numbers_of;
 use crate::lines::read_line;
@@ -27,6 +28,9 @@ fn asked(memory: &[u16], reply: &[u16], b: Bench, name: u64, n: Numbers, number:
         names::READ => reading::read(v, n),
         names::WRITE => reading::write(v),
         names::LONG => long::read(v, n),
+        names::OPCODE => controller::opcode(n),
+        names::FLAGS => controller::flags(n),
+        names::OUTCOME => controller::outcome(v),
         names::LEGAL | names::LENGTHS | names::PLACES => {
             io::write_all(1, b" ");
             ranges::answers(memory, b, name, n);
@@ -60,6 +64,8 @@ fn answered(
         names::BYTES => return messages::bytes(memory, reply, b, n),
         names::PART => return origins::part(memory, b, n),
         names::HEARD => return messages::heard(memory, reply, b, n),
+        names::CONTROL => return controller::control(memory, b, n),
+        names::ON => return controller::on(memory, b, n),
         names::ORDER => {
             let s = b.settings;
             pairs::order(*memory, s, n);

@@ -24,6 +24,7 @@ use Rattle.control.specs.declared.run.Ran.{Ran}
 use Rattle.control.specs.Machine.{isGoing, movedTo, movedOn, calledTo, returnedFrom, flaggedBy, heardOf, machineAt, nextPair, standing, goingOn}
 use Rattle.control.specs.Step.{hasPair, isOutcome, executed, called, returned, performed, carriedOut, stepOf}
 use Rattle.control.specs.Run.{begun, stepped, advanced, runFrom, runFor}
+use Rattle.control.specs.Start.{notRun, startRefusal, startedAt, goOnRefusal, goneOn}
 
 -- what holds of a machine however one instruction moves it
 pub record Moves (P : Machine → Type 0) (m : Machine) : Type 0 where
@@ -159,3 +160,23 @@ run-sound ram trace m budget s = run-keeps Sound ram trace (begun m) budget soun
 pub start-sound : (start flags : ℕ) → flags < 256 → Sound (machineAt start flags)
 unfolding machineAt
 start-sound start flags h = record { depth = omega arith; calls = refl; flags = h }
+
+-- and so what the entry points give, also where they refuse
+pub started-sound :
+    (ram trace : List ℕ) (start flags budget : ℕ) → Sound (startedAt ram trace start flags budget .machine)
+unfolding startedAt notRun
+started-sound ram trace start flags budget =
+    ⊎-elim
+    (λ (y : eqb (startRefusal ram start) 0 ≡ true).
+    rw y (run-sound ram trace (machineAt start (flags % 256)) budget (start-sound start (flags % 256) (omega arith))))
+    (λ (n : eqb (startRefusal ram start) 0 ≡ false). rw n (start-sound 0 0 (omega arith)))
+    (yes-or-no (eqb (startRefusal ram start) 0))
+
+pub gone-sound :
+    (ram trace : List ℕ) (m : Machine) (budget : ℕ) → Sound m → Sound (goneOn ram trace m budget .machine)
+unfolding goneOn notRun
+gone-sound ram trace m budget s =
+    ⊎-elim
+    (λ (y : eqb (goOnRefusal ram) 0 ≡ true). rw y (run-sound ram trace m budget s))
+    (λ (n : eqb (goOnRefusal ram) 0 ≡ false). rw n (start-sound 0 0 (omega arith)))
+    (yes-or-no (eqb (goOnRefusal ram) 0))

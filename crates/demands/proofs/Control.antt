@@ -1,6 +1,6 @@
 -- Demand 1 of the bus controller, proved.
 use Prim.Native.Nat.{ℕ, _%_}
-use mathlib.Core.Path.{_≡_, refl, ap, _∙_}
+use mathlib.Core.Path.{_≡_, refl, sym, ap, _∙_}
 use mathlib.Core.Bool.{true}
 use mathlib.Core.List.{List, [], _∷_}
 use lib.ListN.{replicate}
@@ -18,6 +18,7 @@ use Rattle.control.proofs.Ends.{run-not-refused, started-number, started-refuse
 use Rattle.c_words.specs.Over.{over}
 use Rattle.c_control.specs.Numbers.{machineFrom, machineLeft, ranNumbers}
 use Rattle.c_control.proofs.runs
+use Rattle.c_control.proofs.Back.{started-back, gone-back}
 use Rattle.demands.specs.Answered.{rising}
 use Rattle.demands.specs.Control.{RunAnswered, ToldAnswered, Demand}
 use Rattle.demands.proofs.Answered.{answered, by-number}
@@ -117,4 +118,19 @@ controller =
                 (c .allowed .1 .0)
                 (c .allowed .1 .1);
           };
+      left-by-start =
+          λ c z room.
+          rw (c .allowed .1 .0)
+          (started-back (now (c .given .0)) (now (c .given .1 .1 .1 .1 .0)) (now (c .given .1 .1 .1 .1 .1 .0))
+          (c .given .1 .0)
+          (c .given .1 .1 .0)
+          (c .given .1 .1 .1 .0)
+          room
+          (sym (c .allowed .0) ∙ z));
+      left-by-go-on =
+          λ c z room.
+          let lent = now (c .given .1 .1 .1 .0) in
+          rw (c .allowed .1 .0)
+          (gone-back (now (c .given .0)) (now (c .given .1 .1 .0)) lent lent (c .given .1 .0) room
+          (sym (c .allowed .0) ∙ z));
     }

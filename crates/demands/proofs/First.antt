@@ -52,6 +52,7 @@ use Rattle.demands.proofs.Asked.{ask-answered, go-on-answered, fill-ans
 use Rattle.demands.proofs.Served.{served-meets}
 use Rattle.demands.proofs.Called.{perform-bytes, perform-value}
 use Rattle.demands.proofs.Walks.{walks}
+use Rattle.demands.proofs.Control.{controller}
 
 -- what the three functions that only test answer
 ground-first : (ram : List ℕ) (s : Settings) → groundRefusal ram s ≡ firstOf (groundTests ram s)
@@ -448,4 +449,5 @@ first =
                 (c .left .1 .1 .1 .1 .0)
                 (c .allowed .0) (c .allowed .1 .0) (c .allowed .1 .1);
           };
+      controller = controller;
     }

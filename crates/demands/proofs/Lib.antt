@@ -12,8 +12,8 @@ pub mod Filled
 pub mod Room
 pub mod Seen
 pub mod Handed
-pub mod First
 pub mod Control
+pub mod First
 pub mod Second
 pub mod Third
 pub mod Empty

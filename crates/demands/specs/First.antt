@@ -1,13 +1,12 @@
 -- Demand 1: "Any RAM, settings and message record may be given. Each entry point ends with an answer or a numbered
 -- refusal in the stated order. A refusal returns its number with everything else zero, save a cell number the area
 -- check names, and changes no word of RAM, reply or remembered state."
--- The bus controller's entry points stand in `Control.antt`.
 -- To believe: what `Answered` and `Meets` name; the tests of each entry point (`testsFor`, `recordTests`, `writerTests`,
 -- `groundTests`, `areaTests`, `cellTests`, `givenTests`, `whoTests`, `partTests`, `fillTests`, `entryTests`; of
 -- long records `longTests`, `longWriterTests`, `shorterTests`);
 -- `LowestUnsound`; what each gives back of a refusal (`notRead`, `zeroBytes`, `cellAnswer`, `areaAnswer`, `noCell`,
 -- `noStack`, and `valuesOf` for the number of an answer to who put a word there); `settingsFrom`, `valueFrom`, `stateIn` and
--- `lentTablesOf`, what lent words say.
+-- `lentTablesOf`, what lent words say; and of the bus controller what `Control.antt` names.
 use Prim.Native.Nat.{ℕ, _+_, _/_, _%_, _≤_, _<_}
 use mathlib.Core.Path.{_≡_}
 use mathlib.Core.Logic.{_↔_}
@@ -83,6 +82,7 @@ use Rattle.demands.specs.Calls.{fromBytes, fromValue, performBytes, perf
 use Rattle.demands.specs.Answered.{Answered}
 use Rattle.demands.specs.Meets.{MessageAnswered}
 use Rattle.demands.specs.Walks.{Walks}
+use Rattle.demands.specs.Control as controllers
 
 -- the whole-area check changes nothing: RAM is lent to be read
 pub record CheckAnswered (ram : List ℕ) (s : Settings) (back : Checked) : Type 0 where
@@ -485,3 +485,5 @@ pub record Demand : Type 2 where
       (c .left .1 .1 .1 .1 .0)
       (now (c .given .0))
       (now (c .given .0)))
+  -- the bus controller's entry points (document 02, request 14)
+  pub controller : controllers.Demand

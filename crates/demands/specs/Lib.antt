@@ -6,7 +6,7 @@ pub mod LongCalls
 pub mod Walks
 pub mod Exported
 pub mod Filled
-pub mod First
 pub mod Control
+pub mod First
 pub mod Second
 pub mod Third

@@ -92,7 +92,7 @@ fn count(name: &str, side: &str, messages: &str) -> ExitCode {
 }
 
 fn measure(row: &Row) {
-    let mut messages = 100;
+    let mut messages = 1;
     while run_plain(row, messages).0.max(run_proved(row, messages).0) < BATCH {
         messages *= 2;
     }

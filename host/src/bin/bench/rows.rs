@@ -82,17 +82,17 @@ const MESSAGES: &Image = &[
 ];
 
 fn controller() -> [Row; 2] {
-    let records = record_bytes(0x2864, 4).repeat(100);
+    let records = record_bytes(0x2864, 4).repeat(10_000);
     [
         row(
-            "1000 steps of a list without messages",
+            "a list without messages, 1000000 steps",
             LOOP,
-            Work::Control(1000, Vec::new()),
+            Work::Control(1_000_000, Vec::new()),
         ),
         row(
-            "a list that executes 100 messages",
+            "a list that executes 10000 messages",
             MESSAGES,
-            Work::Control(1000, records),
+            Work::Control(1_000_000, records),
         ),
     ]
 }
