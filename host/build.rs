@@ -1,4 +1,4 @@
-//! With the feature `engine`, links the proved library's five archives.
+//! With the feature `engine`, links the proved library's six archives.
 //! Without it there is nothing to do.
 
 use std::env;
