@@ -16,7 +16,7 @@ use Rattle.layout_long.proofs.conversion
 use Rattle.message.proofs.long
 use Rattle.c_words_long.specs.LongValues.{longFrom}
 use Rattle.c_long.proofs.calls as long-calls
-use Rattle.c_long.proofs.from_long
+use Rattle.c_message_long.proofs.from_long
 use Rattle.demands.specs.LongCalls.{fromLong, performLong, exportedLong}
 use Rattle.demands.proofs.Long.{perform-long, read-old-answered, long-read-back-answered, long-write-back-answered, read-long-answered, write-long-answered, longer-answered, shorter-answered, exported-read-long-answered, exported-write-long-answered, exported-longer-answered, exported-shorter-answered}
 use Rattle.area.proofs.area

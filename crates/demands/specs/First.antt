@@ -37,7 +37,7 @@ use Rattle.layout_long.proofs.conversion
 use Rattle.message.proofs.long
 use Rattle.c_words_long.specs.LongValues.{longFrom}
 use Rattle.c_long.proofs.calls as long-calls
-use Rattle.c_long.proofs.from_long
+use Rattle.c_message_long.proofs.from_long
 use Rattle.demands.specs.LongCalls.{fromLong, performLong, exportedLong}
 use Rattle.area.specs.declared.area.Checked.{Checked}
 use Rattle.area.specs.Area.{LowestUnsound, groundTests, areaTests}

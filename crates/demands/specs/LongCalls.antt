@@ -11,7 +11,7 @@ use Rattle.message.proofs.long
 use Rattle.c_words.specs.Setup.{settingsFrom}
 use Rattle.c_words_messages.specs.Call.{lentOf}
 use Rattle.c_long.proofs.calls
-use Rattle.c_long.proofs.from_long
+use Rattle.c_message_long.proofs.from_long
 use Rattle.demands.specs.Entry.{Call}
 use Rattle.demands.specs.Calls.{Message, Exported}
 
