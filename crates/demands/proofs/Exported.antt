@@ -51,7 +51,7 @@ use Rattle.c_words_areas.proofs.Halves.{upper-half, lower-half}
 use Rattle.c_who.specs.Origins.{partWords, LentTables, tablesIn, tablesBack, tablesAfter}
 use Rattle.c_message_bytes.proofs.from_bytes
 use Rattle.c_message_values.proofs.from_value
-use Rattle.c_long.proofs.from_long
+use Rattle.c_message_long.proofs.from_long
 use Rattle.c_long.proofs.calls as long-calls
 use Rattle.c_questions.proofs.calls
 use Rattle.c_questions.proofs.descriptions

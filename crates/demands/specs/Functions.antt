@@ -24,7 +24,7 @@ use Rattle.who_tables.proofs.table
 use Rattle.control.proofs.start
 use Rattle.c_message_bytes.proofs.from_bytes
 use Rattle.c_message_values.proofs.from_value
-use Rattle.c_long.proofs.from_long
+use Rattle.c_message_long.proofs.from_long
 use Rattle.c_questions.proofs.calls
 use Rattle.c_long.proofs.calls as long-calls
 use Rattle.c_questions.proofs.descriptions
