@@ -1,9 +1,10 @@
 // The label of one cell: every other cell whose window meets its window.
 ghost use mathlib.Core.Path.{_≡_};
-ghost use mathlib.Core.Bool.{true};
+ghost use mathlib.Core.Bool.{true, false};
 ghost use Prim.Native.Nat.{_+_, _≤_};
 ghost use lib.ListN.{length};
 ghost use lib.Seq.{sets};
+ghost use Rattle.memory.specs.Map.{ramRefused};
 ghost use Rattle.label.specs.Listing.{front};
 ghost use Rattle.label.specs.Label.{takesPart, meetingCells, sharerNumbered, cellAnswer, cellLabel, cellRefusal, sharersOf, countedOf};
 ghost use Rattle.label.specs.Search.{sharesWindow, sharersOfKind};
