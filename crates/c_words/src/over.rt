@@ -7,6 +7,7 @@ ghost use lib.Seq.{sets};
 ghost use mathlib.Core.List.{[], _∷_};
 ghost use Rattle.c_words.specs.Over.{over};
 use memory::ram::put;
+use records::value::Words;
 use words::choose::smaller;
 
 // Four words from place `at` on.
@@ -19,9 +20,6 @@ pub fn put_four(xs: &mut [u16], at: u16, a: u16, b: u16, c: u16, d: u16)
     put(xs, first + 1, b);
     put(xs, first, a);
 }
-
-// The words of a record value.
-pub type Words = [u16; 32];
 
 fn put_words_below(xs: &mut [u16], words: Words, room: usize)
     requires { ⌜ room ≡ min (length (now xs)) 36 ⌝ }

@@ -23,12 +23,6 @@ controlPart control Receive = control / 32 % 32
 controlPart control Transmit = control / 1024 % 32
 controlPart control Broadcast = control % 32
 
--- how far above bit 0 they stand
-abbrev pub controlShift : Kind → ℕ
-controlShift Receive = 5
-controlShift Transmit = 10
-controlShift Broadcast = 0
-
 -- "circular of 64·2^m words"
 abbrev pub sizeOf : ℕ → ℕ
 sizeOf m = 64 * 2 ^ m

@@ -1,2 +1,3 @@
+pub mod Shift
 pub mod Cell
 pub mod Stack

@@ -1,7 +1,8 @@
 // A cell's description, read from its lookup word and its control word; its window; whether it is sound.
 ghost use mathlib.Core.Path.{_≡_};
 ghost use Prim.Native.Nat.{_<_};
-ghost use Rattle.cells.specs.Cell.{controlShift, controlPart, sizeOf, pickScheme, lookupAt, cellFrom, cellAt, windowOf, doubleFits, soundWithin, soundCell};
+ghost use Rattle.cells.specs.Shift.{controlShift};
+ghost use Rattle.cells.specs.Cell.{controlPart, sizeOf, pickScheme, lookupAt, cellFrom, cellAt, windowOf, doubleFits, soundWithin, soundCell};
 use memory::kind::Kind;
 use memory::kind::able_to_write;
 use memory::kind::cell_number;

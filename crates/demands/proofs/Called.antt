@@ -1,15 +1,12 @@
 -- Every message that the contract of a function allows is what the definitions say.
 use mathlib.Core.Path.{_≡_, refl, sym, _∙_}
 use mathlib.Core.Logic.{inl, inr}
-use denote.Ref.{now}
 use Rattle.plan.specs.declared.plan.Plan.{Plan}
 use Rattle.message.specs.declared.perform.Performed.the-variants.{Done}
-use Rattle.message.specs.Heard.{heardValue, heardBytes}
-use Rattle.message.specs.Message.{planFor}
 use Rattle.message.specs.Tests.{refusalFor}
 use Rattle.message.specs.Performed.{performedOf, answerIn, rememberedIn}
 use Rattle.message.proofs.Performing.{told, performed-done}
-use Rattle.demands.specs.Calls.{Message, FromBytes, fromBytes, FromValue, fromValue, PerformBytes, performBytes, PerformValue, performValue, MessageCall, shows}
+use Rattle.demands.specs.Calls.{FromBytes, fromBytes, FromValue, fromValue, PerformBytes, performBytes, PerformValue, performValue, MessageCall, shows}
 use Rattle.demands.specs.Meets.{planned}
 use Rattle.demands.proofs.Served.{Served}
 

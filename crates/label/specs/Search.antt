@@ -1,4 +1,4 @@
--- The search for the cells that meet one: by its window, kind by kind.
+-- For the code alone: the search for the cells that meet one, by its window, kind by kind.
 use Prim.Native.Nat.{ℕ}
 use mathlib.Core.Bool.{Bool, not, _&&_}
 use mathlib.Core.List.{List, map}

@@ -1,4 +1,4 @@
--- Words with their two bytes swapped: a step on the way of reader and writer, and no rule of its own.
+-- For the code alone: words with their two bytes swapped, a step on the way of reader and writer.
 use Prim.Native.Nat.{ℕ, _+_, _*_, _/_, _%_}
 use mathlib.Core.List.{List}
 use lib.ListN.{getD}

@@ -17,7 +17,7 @@ use Rattle.records.proofs.Before.{plain}
 use Rattle.faults.specs.Fault.{expectedWords, faultsOf, faultsFor, anyFault}
 use Rattle.lookup.specs.declared.target.Target.{Target}
 use Rattle.plan.specs.Act.{withheld, wordsStored, wordsSent, actWith, actOf}
-use Rattle.plan.specs.Deed.{isOdd, cleanAct}
+use Rattle.plan.specs.Clean.{isUnclean, cleanAct}
 
 -- the parts of what is not odd
 record Clean (t : Target) (v : Record) : Type 0 where
@@ -27,8 +27,8 @@ record Clean (t : Target) (v : Record) : Type 0 where
   flags : v .flags < 2
   count : v .count ≡ expectedWords (v .command)
 
-clean-of : (t : Target) (v : Record) → isOdd (t .illegal) (t .busy) (t .broadcast) (v .flags) (not (eqb (v .count) (expectedWords (v .command)))) ≡ false → Clean t v
-unfolding isOdd
+clean-of : (t : Target) (v : Record) → isUnclean (t .illegal) (t .busy) (t .broadcast) (v .flags) (not (eqb (v .count) (expectedWords (v .command)))) ≡ false → Clean t v
+unfolding isUnclean
 clean-of t v e =
     let high = leb 2 (v .flags) in
     let wrong = not (eqb (v .count) (expectedWords (v .command))) in
@@ -64,7 +64,7 @@ clean-act s t v c =
     (yes-or-no (transmits (v .command))))
 
 -- the same, in the code's way: a yes that it is not odd
-pub not-odd :
-    (s : Settings) (t : Target) (v : Record) (odd : Bool) → odd ≡ isOdd (t .illegal) (t .busy) (t .broadcast) (v .flags) (not (eqb (v .count) (expectedWords (v .command)))) → (clean : Bool) → clean ≡ not odd → clean ≡ true →
+pub not-unclean :
+    (s : Settings) (t : Target) (v : Record) (odd : Bool) → odd ≡ isUnclean (t .illegal) (t .busy) (t .broadcast) (v .flags) (not (eqb (v .count) (expectedWords (v .command)))) → (clean : Bool) → clean ≡ not odd → clean ≡ true →
     actOf s t v ≡ cleanAct (v .command)
-not-odd s t v odd e clean f h = clean-act s t v (clean-of t v (sym e ∙ not-true odd (sym f ∙ h)))
+not-unclean s t v odd e clean f h = clean-act s t v (clean-of t v (sym e ∙ not-true odd (sym f ∙ h)))

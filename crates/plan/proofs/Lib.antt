@@ -5,5 +5,6 @@ pub mod Before
 pub mod BroadcastOff
 pub mod Failing
 pub mod Clean
+pub mod NoWords
 pub mod Interrupt
 pub mod Determined

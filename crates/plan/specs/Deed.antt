@@ -1,13 +1,9 @@
 -- The deed of an accepted message: all that it does in its cell, and all that it reports but for the stack.
-use Prim.Native.Nat.{ℕ}
-use mathlib.Core.Bool.{Bool, true, false, not, cond, _&&_, _||_}
-use lib.Dec.{leb, eqb}
+use mathlib.Core.Bool.{false, not, _&&_}
 use Rattle.records.specs.declared.value.Record.{Record}
 use Rattle.records.specs.Value.{onBusB}
 use Rattle.records.specs.Transfer.{isTransfer}
 use Rattle.words.specs.declared.settings.Settings.{Settings}
-use Rattle.words.specs.Command.{transmits, wordCount}
-use Rattle.faults.specs.Fault.{expectedWords}
 use Rattle.lookup.specs.declared.target.Target.{Target}
 use Rattle.plan.specs.declared.act.Act.{Act}
 use Rattle.plan.specs.declared.motion.Motion.{Motion}
@@ -52,27 +48,3 @@ deedWith s t v a m =
 -- what the message does in its cell: no word of RAM is read beyond the target
 unfoldable pub deedOf : Settings → Target → Record → Deed
 deedOf s t v = deedWith s t v (actOf s t v) (motionOf s t (actOf s t v))
-
--- what makes a message other than clean: illegal, busy, broadcast, any flag but the bus, a wrong count
-unfoldable pub isOdd : Bool → Bool → Bool → ℕ → Bool → Bool
-isOdd illegal busy broadcast flags miscounted = (illegal || busy) || (broadcast || (leb 2 flags || miscounted))
-
--- the act of a clean message: no fault, and all its words stored or sent
-unfoldable pub cleanAct : ℕ → Act
-cleanAct command =
-    record {
-      faults =
-          record {
-            sync = false;
-            invalid = false;
-            count = false;
-            contents = false;
-            «no_status» = false;
-            gap = false;
-            second = false;
-          };
-      valid = true;
-      stored = cond (transmits command) 0 (wordCount command);
-      sent = cond (transmits command) (wordCount command) 0;
-      k = wordCount command;
-    }

@@ -2,7 +2,8 @@
 ghost use mathlib.Core.Path.{_≡_};
 ghost use mathlib.Core.Bool.{not};
 ghost use Rattle.faults.specs.Fault.{anyFault};
-ghost use Rattle.plan.specs.Deed.{deedWith, isOdd, cleanAct, deedOf};
+ghost use Rattle.plan.specs.Clean.{isUnclean, cleanAct};
+ghost use Rattle.plan.specs.Deed.{deedWith, deedOf};
 use crate::act::Act;
 use crate::act::act_of;
 use crate::motion::Motion;
@@ -95,8 +96,8 @@ fn deed_with(s: Settings, t: Target, v: Record, a: Act, m: Motion) -> Deed
 
 // What makes a message other than clean: illegal, busy, broadcast, any flag but the bus, a wrong count. Asked of plain
 // values, so that the compiler need not take target and record apart.
-fn is_odd(illegal: bool, busy: bool, broadcast: bool, flags: u8, miscounted: bool) -> bool
-    ensures { λ r. ⌜ r ≡ isOdd illegal busy broadcast flags miscounted ⌝ }
+fn is_unclean(illegal: bool, busy: bool, broadcast: bool, flags: u8, miscounted: bool) -> bool
+    ensures { λ r. ⌜ r ≡ isUnclean illegal busy broadcast flags miscounted ⌝ }
 {
     either(
         either(illegal, busy),
@@ -132,7 +133,7 @@ pub fn deed_of(s: Settings, t: Target, v: Record) -> Deed
     ensures { λ r. ⌜ r ≡ deedOf s t v ⌝ }
 {
     let miscounted = no(v.count as u16 == expected_words(v.command));
-    if no(is_odd(t.illegal, t.busy, t.broadcast, v.flags, miscounted)) {
+    if no(is_unclean(t.illegal, t.busy, t.broadcast, v.flags, miscounted)) {
         let a = clean_act(v.command);
         let m = motion_of(s, t, a);
         return deed_with(s, t, v, a, m);

@@ -5,6 +5,9 @@ use crate::transfer::breaks_transfer;
 use words::choose::both;
 use words::choose::no;
 
+// The words of a record value.
+pub type Words = [u16; 32];
+
 // A message record as a value. It can hold what breaks the layout, since the writer refuses such a value.
 pub struct Record {
     pub command: u16,

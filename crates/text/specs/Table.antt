@@ -1,4 +1,4 @@
--- The two hexadecimal digits of every byte, in a table.
+-- For the code alone: the two hexadecimal digits of every byte, in a table.
 use Prim.Native.Nat.{ℕ, _/_, _%_}
 use mathlib.Core.Bool.{cond}
 use mathlib.Core.List.{List}

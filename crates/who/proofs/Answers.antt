@@ -1,7 +1,7 @@
 -- The answer is right: the theorem of request 10.
 use Prim.Native.Nat.{ℕ, _+_, _-_, _%_, _^_, _<_}
 use native.Mathlib.Omega.{arith}
-use mathlib.Core.Path.{_≡_, refl, sym, ap, _∙_}
+use mathlib.Core.Path.{_≡_, refl, ap, _∙_}
 use mathlib.Core.Logic.{_⊎_, inl, inr, ⊎-elim}
 use mathlib.Core.List.{List, [], _∷_}
 use lib.ListN.{length, getD}
@@ -12,7 +12,6 @@ use Rattle.words.proofs.Basics.{eq-or-ne}
 use Rattle.words.proofs.Refusals.{accepted}
 use Rattle.memory.specs.State.{State}
 use Rattle.memory.proofs.Writes.{length-apply}
-use Rattle.writes.specs.declared.part.Part.the-variants.{Data}
 use Rattle.writes.specs.Asked.{Planned, planned, asWrite}
 use Rattle.message.specs.Heard.{Heard}
 use Rattle.message.specs.Tests.{refusalFor}

@@ -1,12 +1,10 @@
 -- The one list of writes: whatever is asked of each write is asked of the same list; and what holds of every write.
 use Prim.Native.Nat.{ℕ, _+_, _<_}
 use mathlib.Core.Path.{_≡_, refl}
-use mathlib.Core.Logic.{⊎-elim}
 use mathlib.Core.Bool.{Bool, true, false, cond}
-use mathlib.Core.List.{List, [], _∷_, _++_, map, map-append}
+use mathlib.Core.List.{[], _∷_, _++_, map, map-append}
 use lib.ListN.{getD}
 use Rattle.words.specs.declared.settings.Settings.{Settings}
-use Rattle.words.proofs.Basics.{yes-or-no}
 use Rattle.records.specs.declared.value.Record.{Record}
 use Rattle.memory.specs.Map.{lookupPlace, stackPointerPlace}
 use Rattle.memory.specs.Rows.{row, Each}

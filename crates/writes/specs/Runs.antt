@@ -1,4 +1,4 @@
--- Straight runs. "Copy up to the end of the window and then from its start."
+-- For the code alone: straight runs. "Copy up to the end of the window and then from its start."
 use Prim.Native.Nat.{ℕ, _+_, _-_, min}
 use mathlib.Core.Bool.{Bool, _&&_}
 use mathlib.Core.List.{List}

@@ -7,12 +7,10 @@ use crate::runs::goes_once;
 use crate::runs::runs_of;
 use memory::ram::put;
 use memory::ram::word_at;
+use records::value::Words;
 use windows::window::Window;
 use windows::window::place;
 use words::choose::both;
-
-// The words of a record value.
-pub type Words = [u16; 32];
 
 // The stored words, one by one, each at its place in the window.
 fn store_each(ram: &mut [u16], w: Window, words: &[u16], n: u16)

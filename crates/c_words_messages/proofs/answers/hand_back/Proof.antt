@@ -46,7 +46,7 @@ returns-2 c =
     let put = c .before .before in
     let told = put .before in
     let kept = told .before .before .before .before in
-    let e = kept .before .before .before .performed2 .given .1 in
+    let e = kept .before .before .before .before .performed2 .given .1 in
     (rw e, (rw e (kept .put-remembered .ensures), rw (e, ← (told .accepted-with .ensures)) (put .put-answer .ensures)))
 
 pub hand-back-spec : {M : Type 1} → statement M

@@ -5,7 +5,8 @@ use native.Mathlib.Omega.{arith}
 use mathlib.Core.Path.{_≡_}
 use Rattle.memory.specs.declared.kind.Kind.{Kind}
 use Rattle.memory.specs.declared.kind.Kind.the-variants.{Receive, Transmit, Broadcast}
-use Rattle.cells.specs.Cell.{controlShift, controlPart}
+use Rattle.cells.specs.Cell.{controlPart}
+use Rattle.cells.specs.Shift.{controlShift}
 use Rattle.cells.proofs.cell.control_part.Statement.{statement}
 use Rattle.cells.proofs.cell.control_part.Tie as tie
 

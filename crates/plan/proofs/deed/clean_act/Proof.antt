@@ -1,6 +1,6 @@
 -- `clean_act` meets its contract: the same parts.
 use borrow.Author.Needs.{needs}
-use Rattle.plan.specs.Deed.{cleanAct}
+use Rattle.plan.specs.Clean.{cleanAct}
 use Rattle.plan.proofs.deed.clean_act.Statement.{statement}
 use Rattle.plan.proofs.deed.clean_act.Tie as tie
 

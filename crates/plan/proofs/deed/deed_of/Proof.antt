@@ -2,8 +2,9 @@
 use borrow.Author.Needs.{needs}
 use Rattle.faults.specs.Fault.{anyFault}
 use Rattle.plan.specs.Act.{actWith, actOf}
-use Rattle.plan.specs.Deed.{cleanAct, deedOf}
-use Rattle.plan.proofs.Clean.{not-odd}
+use Rattle.plan.specs.Clean.{cleanAct}
+use Rattle.plan.specs.Deed.{deedOf}
+use Rattle.plan.proofs.Clean.{not-unclean}
 use Rattle.plan.proofs.deed.deed_of.Statement.{statement}
 use Rattle.plan.proofs.deed.deed_of.Tie as tie
 
@@ -16,8 +17,8 @@ expected-words-requires c κs = search needs
 no-requires : tie.Need-no-requires
 no-requires c κs = search needs
 
-is-odd-requires : tie.Need-is-odd-requires
-is-odd-requires c κs = search needs
+is-unclean-requires : tie.Need-is-unclean-requires
+is-unclean-requires c κs = search needs
 
 no-requires-2 : tie.Need-no-requires-2
 no-requires-2 c κs = search needs
@@ -41,8 +42,8 @@ returns c =
     let wrong = odd .before in
     let expected = wrong .before in
     let a = expected .before .before .args in
-    let told = rw (wrong .no .ensures, expected .expected-words .ensures) at (odd .is-odd .ensures) in
-    let clean = not-odd (a .s) (a .t) (a .v) _ told _ (asked .no2 .ensures) (begun .if1 .taken) in
+    let told = rw (wrong .no .ensures, expected .expected-words .ensures) at (odd .is-unclean .ensures) in
+    let clean = not-unclean (a .s) (a .t) (a .v) _ told _ (asked .no2 .ensures) (begun .if1 .taken) in
     rw (
       c .deed-with .ensures,
       c .before .motion-of .ensures,
@@ -71,7 +72,7 @@ deed-of-spec =
     cast-no
     expected-words-requires
     no-requires
-    is-odd-requires
+    is-unclean-requires
     no-requires-2
     clean-act-requires
     motion-of-requires

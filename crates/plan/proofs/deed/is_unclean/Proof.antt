@@ -1,8 +1,8 @@
--- `is_odd` meets its contract: the same five tests.
+-- `is_unclean` meets its contract: the same five tests.
 use borrow.Author.Needs.{needs}
-use Rattle.plan.specs.Deed.{isOdd}
-use Rattle.plan.proofs.deed.is_odd.Statement.{statement}
-use Rattle.plan.proofs.deed.is_odd.Tie as tie
+use Rattle.plan.specs.Clean.{isUnclean}
+use Rattle.plan.proofs.deed.is_unclean.Statement.{statement}
+use Rattle.plan.proofs.deed.is_unclean.Tie as tie
 
 either-requires : tie.Need-either-requires
 either-requires c κs = search needs
@@ -17,7 +17,7 @@ either-requires-4 : tie.Need-either-requires-4
 either-requires-4 c κs = search needs
 
 returns : tie.Need-returns
-unfolding isOdd
+unfolding isUnclean
 returns c =
     rw (
       c .either4 .ensures,
@@ -26,6 +26,6 @@ returns c =
       c .before .before .before .either .ensures,
     )
 
-pub is-odd-spec : {M : Type 1} → statement M
-is-odd-spec =
+pub is-unclean-spec : {M : Type 1} → statement M
+is-unclean-spec =
     tie.close (tie.spec either-requires either-requires-2 either-requires-3 either-requires-4 returns)
