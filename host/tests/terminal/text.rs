@@ -235,7 +235,7 @@ fn settings_and_owners() {
     let text = "settings address 7 area B stack 512 busy-always terminal-flag\n\
         owner 19 Anna   Karlsson # the elder\nimage 2\nowner 3 Bert\nram 0 1234\n";
     let read = read_text(text.as_bytes()).unwrap();
-    assert_eq!(read.bytes, [0x12, 0x34]);
+    assert_eq!(read.bytes().unwrap(), [0x12, 0x34]);
     let expected = Settings {
         address: 7,
         area_b: true,
