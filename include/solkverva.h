@@ -1,8 +1,8 @@
-/* The proved terminal, for callers in C and Rust. scripts/proved library builds what to link, for x86-64: six archives
+/* The proved terminal, for callers in C and Rust. scripts/proved library builds what to link, for x86-64: seven archives
  * in target/built/target/staticlib/, libc_questions.a, libc_message_bytes.a (solkverva_message), libc_message_values.a
- * (solkverva_message_value), libc_who.a (solkverva_who and the two like it), libc_long.a (long
- * records) and libc_control.a (solkverva_control and solkverva_control_on). None needs another, so their order is
- * free.
+ * (solkverva_message_value), libc_message_long.a (solkverva_message_long), libc_who.a (solkverva_who and the two like it),
+ * libc_long.a (all else of long records) and libc_control.a (solkverva_control and solkverva_control_on). None needs
+ * another, so their order is free.
  *
  * Every function returns, with an answer for any contents and any lengths of what is lent, and writes nothing else.
  *
@@ -13,8 +13,10 @@
  *   - Nothing that the function writes overlaps anything else of the same call.
  *   - Until it returns, no other thread writes what is lent or reads what the function writes.
  *
- * Some lengths are refused where they are wrong: ram has 4,096 words, no more and no fewer; numbers and marks each as
- * many; reply at least 33; a record that is read 80 bytes, a long one 96, no more and no fewer.
+ * Some lengths are refused where they are wrong: ram has 4,096 words or the 65,536 of the 64K card, no other number;
+ * numbers and marks each as many as ram; reply at least 33; a record that is read 80 bytes, a long one 96, no more and no
+ * fewer. Which card it is, ram's length alone says: the end of RAM is that of the ram that is lent, so that the same
+ * words may be sound on one card and unsound on the other.
  *
  * All else may have any length. What is missing of settings, remembered, records or value is read as 0. What remembered,
  * answer, value, listing, counts, unsound, pairs, description, records, last, part, machine, ran or the bytes that are
@@ -42,8 +44,8 @@
  *   has, its faults. Faults are added up; there are none, 0, exactly where it is sound.
  *
  * numbers, marks: for each address of RAM a number and a word, all 0 at first; solkverva_who_fill fills them, and
- *   solkverva_who_entry tells what they say. Both have as many as RAM has words, 4,096: with any other length of either,
- *   both functions answer 1. A number and a word that solkverva_who_fill did not leave together are answered with 5.
+ *   solkverva_who_entry tells what they say. Lend both with as many as RAM has words, 4,096 or 65,536: with any other
+ *   length of either, both functions answer 1. A number and a word that solkverva_who_fill did not leave together are answered with 5.
  * records: one number, how many records of the trace have gone by, 0 at first. A trace in parts needs its room: without
  *   it every part counts its records from 1.
  * last: one number, that of the last record that wrote the word, counted from 1; 0 where it is as in the image.
@@ -91,6 +93,7 @@ extern "C" {
 /* How long each is. */
 enum {
     SOLKVERVA_RAM_WORDS = 4096,
+    SOLKVERVA_LARGE_RAM_WORDS = 65536, /* of the 64K card */
     SOLKVERVA_REPLY_WORDS = 33,
     SOLKVERVA_SETTINGS_WORDS = 12,
     SOLKVERVA_REMEMBERED_WORDS = 2,
@@ -126,7 +129,7 @@ enum {
  * all else that is handed back is zero (but for the cell that the whole-area check adds to 9). */
 enum {
     SOLKVERVA_DONE = 0,
-    SOLKVERVA_RAM_LENGTH = 1,      /* RAM is not 4,096 words, or numbers or marks are not as many */
+    SOLKVERVA_RAM_LENGTH = 1,      /* RAM is neither 4,096 nor 65,536 words, or numbers or marks are not as many */
     SOLKVERVA_REPLY_ROOM = 2,      /* reply buffer under 33 words */
     SOLKVERVA_BAD_SETTINGS = 3,    /* RT address over 30 (31 with broadcast off), or stack size none of the four */
     SOLKVERVA_RECORD_LENGTH = 4,   /* record is not 80 bytes, long record not 96 */
@@ -174,7 +177,7 @@ enum {
 /* Why the stack is unsound, added up. */
 enum {
     SOLKVERVA_STACK_POINTER_OFF = 1,      /* its pointer is no multiple of 4 */
-    SOLKVERVA_STACK_POINTER_OVER = 2,     /* its pointer is over 0FFC */
+    SOLKVERVA_STACK_POINTER_OVER = 2,     /* its pointer is over 0FFC, on the 64K card over FFFC */
     SOLKVERVA_STACK_BLOCK_OVER_END = 4,   /* its block goes over RAM's end */
     SOLKVERVA_STACK_MEETS_LOW_AREA = 8,   /* its block meets the fixed area 0100-0247 */
     SOLKVERVA_STACK_MEETS_HIGH_AREA = 16  /* its block meets the fixed area 0300-03FF */
@@ -225,18 +228,18 @@ uint16_t solkverva_describe_stack(const uint16_t *ram, size_t ram_words, const u
 
 /* Who put each word where it is: goes on over all whole records of this part of a trace. RAM holds the image at first, and
  * what the records leave afterwards; lend each part what the one before left. A refused record is counted and writes
- * nothing. The number: 0; 1 where RAM is not 4,096 words, or numbers or marks are not as many; 3. A part that is refused
- * changes nothing, and nothing remembers it: whatever part is lent next goes on as if the refused one had not been lent,
- * so it can be lent again as it should be. */
+ * nothing. The number: 0; 1 where RAM is neither 4,096 nor 65,536 words, or numbers or marks are not as many; 3. A part
+ * that is refused changes nothing, and nothing remembers it: whatever part is lent next goes on as if the refused one had
+ * not been lent, so it can be lent again as it should be. */
 uint16_t solkverva_who_fill(uint16_t *ram, size_t ram_words, uint64_t *numbers, size_t numbers_length, uint16_t *marks,
                             size_t marks_words, const uint16_t *settings, size_t settings_words, uint16_t *remembered,
                             size_t remembered_words, uint64_t *records, size_t records_length, const uint8_t *trace,
                             size_t trace_length);
 
 /* What the tables say of an address. Where solkverva_who_fill filled them from zeros, that is what solkverva_who answers
- * for the records of all parts that were not refused. The number: 0; 1 where numbers and marks are not both 4,096 long,
- * for every address; 5 where what they hold of the address is no entry (a number without a mark, a mark without a number,
- * a word that is no mark); 12 for an address beyond the RAM. */
+ * for the records of all parts that were not refused. The number: 0; 1 where numbers and marks are not both 4,096 or both
+ * 65,536 long, for every address; 5 where what they hold of the address is no entry (a number without a mark, a mark
+ * without a number, a word that is no mark); 12 for an address beyond the RAM, which no address is on the 64K card. */
 uint16_t solkverva_who_entry(const uint64_t *numbers, size_t numbers_length, const uint16_t *marks, size_t marks_words,
                              uint16_t address, uint64_t *last, size_t last_length, uint16_t *part, size_t part_words);
 

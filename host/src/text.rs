@@ -21,6 +21,6 @@ pub use pack::{pack, read_names, read_text, TraceText};
 pub(crate) use settings::{read_settings, write_settings};
 pub use tokens::TextError;
 pub(crate) use tokens::{decimal, mismatch, shown, Mismatch, Tokens};
-pub(crate) use unpack::write_words;
-pub use unpack::{unpack, unpack_long};
+pub use unpack::{unpack, unpack_long, unpack_ram};
+pub(crate) use unpack::{write_record, write_words};
 pub use unseen::visible;

@@ -22,8 +22,9 @@ pub(crate) struct Bench {
 }
 
 // RAM of zeros and a reply of EEEE; 4,096 and 33 words of them are lent.
-pub(crate) fn cleared(ram: &mut [u16; 4352], reply: &mut [u16; 64]) -> Bench {
-    fill(ram, 0, 4352, 0, 0);
+pub(crate) fn cleared(ram: &mut [u16; 65792], reply: &mut [u16; 64]) -> Bench {
+    fill(ram, 0, 0xFFFF, 0, 0);
+    fill(ram, 0xFFFF, 0x101, 0, 0);
     fill(reply, 0, 64, 0xEEEE, 0);
     let settings = settings(5, 0, 256, 1);
     let remembered = words::remembered::nothing_remembered();
@@ -91,7 +92,7 @@ pub(crate) fn built(b: Bench, name: u64, n: Numbers) -> Bench {
             next.settings = s;
         }
         names::LEND => {
-            next.ram = n.a as usize;
+            next.ram = (n.c % 16) as usize * 65536 + n.a as usize;
             next.room = n.b as usize;
         }
         names::FROM => {

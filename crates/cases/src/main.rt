@@ -19,7 +19,7 @@ mod show;
 fn main() {
     let mut text = [0u8; 131072];
     let n = io::read_full(0, &mut text);
-    let mut ram = [0u16; 4352];
+    let mut ram = [0u16; 65792];
     let mut reply = [0u16; 64];
     script::run(&text[..n], &mut ram, &mut reply);
 }

@@ -36,7 +36,7 @@ fn one(ram: &mut [u16], s: Settings, command: u16, word: u16) {
 }
 
 // One after the other in a copy of RAM, what a place then holds, and whether they may change places.
-pub(crate) fn order(start: [u16; 4352], s: Settings, n: Numbers) {
+pub(crate) fn order(start: [u16; 65792], s: Settings, n: Numbers) {
     let mut ram = start;
     let may = may_exchange(&ram, s, heard(n.a, n.b), heard(n.c, n.d));
     one(&mut ram, s, n.a, n.b);

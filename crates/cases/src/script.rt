@@ -17,7 +17,6 @@ use crate::ranges;
 use crate::reading;
 use crate::show::show;
 use memory::ram::put;
-use words::choose::pick;
 
 // A line that asks, whose answer stands behind it.
 fn asked(memory: &[u16], reply: &[u16], b: Bench, name: u64, n: Numbers, number: u16) {
@@ -46,11 +45,10 @@ fn asked(memory: &[u16], reply: &[u16], b: Bench, name: u64, n: Numbers, number:
     }
 }
 
-// A line that is printed, with its answer. A check has a word put first, if there is one: at FFFF there is no place for
-// it.
+// A line that is printed, with its answer. A check has a word put first, if there is one.
 fn answered(
     text: &[u8],
-    memory: &mut [u16; 4352],
+    memory: &mut [u16; 65792],
     reply: &mut [u16; 64],
     b: Bench,
     name: u64,
@@ -71,7 +69,9 @@ fn answered(
             pairs::order(*memory, s, n);
         }
         names::CHECK => {
-            put(memory, pick(n.count == 2, n.a, 0xFFFF) as usize, n.b);
+            if n.count == 2 {
+                put(memory, n.a as usize, n.b);
+            }
             blocks::check(memory, b);
         }
         _ => asked(memory, reply, b, name, n, number),
@@ -83,7 +83,7 @@ fn answered(
 // A line that builds what a case needs, or a heading. Any other is printed, with its answer.
 fn done(
     text: &[u8],
-    memory: &mut [u16; 4352],
+    memory: &mut [u16; 65792],
     reply: &mut [u16; 64],
     b: Bench,
     name: u64,
@@ -108,7 +108,7 @@ fn done(
     b
 }
 
-pub(crate) fn run(text: &[u8], memory: &mut [u16; 4352], reply: &mut [u16; 64]) {
+pub(crate) fn run(text: &[u8], memory: &mut [u16; 65792], reply: &mut [u16; 64]) {
     let mut b = bench::cleared(memory, reply);
     let mut at: usize = 0;
     let mut number: u16 = 0;

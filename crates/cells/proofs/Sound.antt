@@ -85,22 +85,29 @@ module _ (words : ℕ) (block : Window) (c : Cell) where
         f .stack,
       )
 
--- "So m = 6 and 7 are never sound here.": such a window would be all of RAM, and the fixed areas are in it
+-- a circle as large as RAM is never sound: its window would be all of RAM, and the fixed areas are in it
 pub never-sound :
-    (block : Window) (c : Cell) (m : ℕ) → 6 ≤ m → c .scheme ≡ Circular (sizeOf m) → soundCell 4096 block c ≡ false
+    (words : ℕ) (block : Window) (c : Cell) (m : ℕ) → 0x400 ≤ words → words ≤ sizeOf m → c .scheme ≡ Circular (sizeOf m) →
+    soundCell words block c ≡ false
 unfolding windowOf
-never-sound block c m h e =
+never-sound words block c m h l e =
     let w = cellWindow c in
-    let p : 2 ^ 6 ≤ 2 ^ m = pow-mono h in
     let z : w .size ≡ sizeOf m = rw e (aligned-size (c .pointer) (sizeOf m)) in
     ⊎-elim
     (λ sound.
-    let f = sound-cell-facts 4096 block c sound in
+    let f = sound-cell-facts words block c sound in
     let i = f .inside in
     absurd
     (nothing-shared (w .start) (w .size) 0x100 0x148 (f .fixed .tables) 0x100 (omega arith) (omega arith) (omega arith) (omega arith)))
     (λ not. not)
-    (yes-or-no (soundCell 4096 block c))
+    (yes-or-no (soundCell words block c))
+
+-- "So m = 6 and 7 are never sound here."
+pub never-sound-here :
+    (block : Window) (c : Cell) (m : ℕ) → 6 ≤ m → c .scheme ≡ Circular (sizeOf m) → soundCell 4096 block c ≡ false
+never-sound-here block c m h e =
+    let p : 2 ^ 6 ≤ 2 ^ m = pow-mono h in
+    never-sound 4096 block c m (omega arith) (omega arith) e
 
 pub ordinary-address :
     (words : ℕ) (w : Window) → w .start + w .size ≤ words → OffFixed w → (x : ℕ) → w .start ≤ x →

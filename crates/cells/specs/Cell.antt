@@ -76,7 +76,7 @@ abbrev pub cellWindow : Cell → Window
 cellWindow c = windowOf (c .scheme) (c .pointer)
 
 -- "A cell is sound if its pointer and window lie in 0000-0FFF, a double pointer is a multiple of 32, and the window
--- meets neither a fixed area nor the active stack."
+-- meets neither a fixed area nor the active stack." With the 64K card: "soundness is against the given RAM's end".
 abbrev pub soundWithin : ℕ → Window → Cell → Window → Bool
 soundWithin words stack c w =
     ((ltb (c .pointer) words && fitsBelow w words) && doubleFits (c .scheme) (c .pointer))

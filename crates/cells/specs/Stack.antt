@@ -18,7 +18,8 @@ unfoldable pub stackWindow : List ℕ → Settings → Window
 stackWindow ram s = aligned (stackPointer ram s) (s .«stack_size»)
 
 -- "The stack is sound if its pointer is a multiple of 4, at most 0FFC, and the block aligned to the stack size around
--- it lies in RAM and meets no fixed area." 0FFC is four below the RAM's length.
+-- it lies in RAM and meets no fixed area." With the 64K card:
+-- "soundness is against the given RAM's end, with the highest stack pointer 4 below its length."
 abbrev pub stackFits : ℕ → ℕ → Window → Bool
 stackFits words pointer block =
     (eqb (pointer % 4) 0 && leb (pointer + 4) words) && (fitsBelow block words && not (meetsFixed block))

@@ -49,7 +49,7 @@ no-test m k z = message-done (m .settings) (m .heard) (m .before) .1 (k .first .
 -- ---- a row of the table of cases
 
 abbrev noCase : Case
-noCase = record { image = []; settings = programSettings; value = zeroValue }
+noCase = record { words = 0; image = []; settings = programSettings; value = zeroValue }
 
 abbrev caseOf : ℕ → Case
 caseOf n = getD cases n noCase

@@ -12,14 +12,13 @@ use Rattle.memory.specs.Map.{lookupPlace, stackPointerPlace}
 use Rattle.memory.specs.State.{State}
 use Rattle.windows.specs.Window.{placeOf}
 use Rattle.cells.specs.Stack.{stackPointer}
-use Rattle.message.specs.declared.answer.Answer.{Answer}
 use Rattle.message.specs.Heard.{Heard}
 use Rattle.message.specs.Tests.{refusalFor}
 use Rattle.message.specs.Answer.{refusedWith}
 use Rattle.message.specs.Message.{answerOf, step}
 use Rattle.message.proofs.Refusals.{message-done, message-refused, refused-answer, refused-state, accepted-answer}
 use Rattle.demands.specs.Calls.{Message}
-use Rattle.demands.specs.Meets.{deed, Untouched, Worked, Meets}
+use Rattle.demands.specs.Meets.{deed, Worked, Meets}
 use Rattle.demands.proofs.Answered.{message-answered}
 use Rattle.demands.proofs.Worked.{stepped, step-worked, message-worked}
 

@@ -1,6 +1,7 @@
 pub mod Cases
 pub mod StackEntries
 pub mod Taken
+pub mod Unseen
 pub mod Same
 pub mod Separate
 pub mod Swap

@@ -30,7 +30,7 @@ use Rattle.message.proofs.Sure.{Sure}
 use Rattle.message.proofs.Step.{afterMessage, deedFor, deed-window, cell-low, target-some, deed-avoids, elsewhere, tables-outside}
 use Rattle.message.proofs.Kept.{message-keeps, other-cell}
 use Rattle.exchange.specs.Condition.{mayExchange}
-use Rattle.exchange.proofs.Same.{target-same, words-same}
+use Rattle.exchange.proofs.Unseen.{target-same, words-same}
 
 -- "they use different cells whose windows don't meet, or that both only send"
 pub record Separate (ram : List ℕ) (s : Settings) (a b : Record) : Type 0 where

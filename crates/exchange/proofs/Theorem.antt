@@ -22,7 +22,7 @@ use Rattle.exchange.specs.Condition.{allWellFormed, allowedAll}
 use Rattle.exchange.specs.After.{keptAfter, stackAfter, rememberedAfter, repliedAfter}
 use Rattle.exchange.specs.Exchanged.{startsWell, takesWell, asked, isInside, Demand}
 use Rattle.exchange.proofs.Taken.{Good, all-formed}
-use Rattle.exchange.proofs.Same.{pointer-same}
+use Rattle.exchange.proofs.Unseen.{stack-tables-off, pointer-same}
 use Rattle.exchange.proofs.Places.{exchange-run, exchange-formed, exchange-length}
 use Rattle.exchange.proofs.Entries.{stack-holds}
 use Rattle.exchange.proofs.Runs.{run-done, run-replies, run-remembers}
@@ -76,7 +76,9 @@ exchange s x vs places e =
       done = (run-done s vs x g f, run-done s ws x g k);
       long = b .ram .long;
       ram = λ a h. b .ram .words a (outside (stackWindow (x .ram) s) a h);
-      pointer = pointer-same (x .ram) (run s ws x .ram) (run s vs x .ram) s (g .area .accepted .stack-sound) (b .ram);
+      pointer =
+          pointer-same (Outside (stackWindow (x .ram) s)) (stack-tables-off (x .ram) s (g .area .accepted .stack-sound))
+          (run s ws x .ram) (run s vs x .ram) (b .ram) s;
       kept = b .kept;
       stack = stack-holds s ws x g k;
       remembered = run-remembers s ws x g k (rw (exchange-length places vs) (q .some));

@@ -5,8 +5,7 @@ use mathlib.Core.Bool.{true, false}
 use mathlib.Core.List.{List}
 use lib.ListN.{length, replicate, length-replicate}
 use lib.Seq.{sets}
-use lib.Dec.{eqb}
-use borrow.Author.Tests.{ne-eqb, eqb-true, not-false}
+use borrow.Author.Tests.{ne-eqb}
 use Rattle.words.specs.declared.settings.Settings.{Settings}
 use Rattle.memory.specs.Map.{ramRefused}
 use Rattle.area.proofs.Before.{ground-accepted}
@@ -17,10 +16,6 @@ use Rattle.label.specs.Label.{takesPart, meetingCells, cellRefusal, shar
 use Rattle.label.proofs.Meeting.{facts-part}
 use Rattle.label.proofs.Turns.{front-back}
 use Rattle.label.proofs.Answers.{accepted-exactly, count-most}
-
-ram-long : (n : ℕ) → ramRefused n ≡ false → n ≡ 4096
-unfolding ramRefused
-ram-long n e = eqb-true n 4096 (not-false (eqb n 4096) e)
 
 module _ (ram : List ℕ) (s : Settings) (cell n : ℕ) (e : n ≡ cellRefusal ram s cell) where
   pub counted-refused :
@@ -37,10 +32,10 @@ module _ (ram : List ℕ) (s : Settings) (cell n : ℕ) (e : n ≡ cellRefusal r
   counted-found room numbers count z p q = (rw (← e, z, q), rw (← e, z) p)
 
   -- a cell that is not refused takes part
-  pub found-part : n ≡ 0 → (length ram ≡ 4096) × (takesPart ram s cell ≡ true)
+  pub found-part : n ≡ 0 → (ramRefused (length ram) ≡ false) × (takesPart ram s cell ≡ true)
   found-part z =
       let f = accepted-exactly ram s cell .0 (sym e ∙ z) in
-      (ram-long (length ram) (ground-accepted ram s (f .0) .ram-accepted), facts-part ram s cell (f .1))
+      (ground-accepted ram s (f .0) .ram-accepted, facts-part ram s cell (f .1))
 
 -- the label that is made of it
 module _ (ram : List ℕ) (s : Settings) (cell : ℕ) where

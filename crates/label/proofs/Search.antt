@@ -46,12 +46,9 @@ passing-on t n (suc m) =
     let f : ℕ → ℕ = λ k. n + k in
     rw (add-suc, map-append f (passing u m) (cond (u m) (m ∷ []) []), one-mapped f (u m) m, ← append-assoc, passing-on t n m)
 
--- RAM of the right length is not refused
-pub ram-known : (n : ℕ) (refused : Bool) → n ≡ 4096 → refused ≡ ramRefused n → refused ≡ true → ⊥
-unfolding ramRefused
-ram-known n refused e p q =
-    let known : ramRefused n ≡ false = rw e in
-    not-both refused q (p ∙ known)
+-- RAM of an accepted length is not refused
+pub ram-known : (n : ℕ) (refused : Bool) → ramRefused n ≡ false → refused ≡ ramRefused n → refused ≡ true → ⊥
+ram-known n refused e p q = not-both refused q (p ∙ e)
 
 module _ (ram : List ℕ) (s : Settings) (stack own : Window) (cell : ℕ) (kind : Kind) where
   abbrev here : ℕ → Bool

@@ -1,9 +1,10 @@
 // The label of one cell: every other cell whose window meets its window.
 ghost use mathlib.Core.Path.{_≡_};
-ghost use mathlib.Core.Bool.{true};
+ghost use mathlib.Core.Bool.{true, false};
 ghost use Prim.Native.Nat.{_+_, _≤_};
 ghost use lib.ListN.{length};
 ghost use lib.Seq.{sets};
+ghost use Rattle.memory.specs.Map.{ramRefused};
 ghost use Rattle.label.specs.Listing.{front};
 ghost use Rattle.label.specs.Label.{takesPart, meetingCells, sharerNumbered, cellAnswer, cellLabel, cellRefusal, sharersOf, countedOf};
 ghost use Rattle.label.specs.Search.{sharesWindow, sharersOfKind};
@@ -91,7 +92,7 @@ fn find_kind(
     numbers: &mut Numbers,
     used: u16,
 ) -> u16
-    requires { ⌜ (length (now ram) ≡ 4096) × (used + length (sharersOfKind (now ram) s stack own cell kind) ≤ 89) ⌝ }
+    requires { ⌜ (ramRefused (length (now ram)) ≡ false) × (used + length (sharersOfKind (now ram) s stack own cell kind) ≤ 89) ⌝ }
     ensures numbers { λ r. ⌜ now (numbers .exit) ≡ sets (now (numbers .entry)) used (sharersOfKind (now (ram .entry)) s stack own cell kind) ⌝ }
     ensures next { λ r. ⌜ r ≡ used + length (sharersOfKind (now (ram .entry)) s stack own cell kind) ⌝ }
 {
@@ -112,7 +113,7 @@ fn find_kind(
 
 // The numbers of the cells that meet one that takes part. Answers how many there are.
 fn find_meeting(ram: &[u16], s: Settings, cell: u16, numbers: &mut Numbers) -> u16
-    requires { ⌜ (length (now ram) ≡ 4096) × (takesPart (now ram) s cell ≡ true) ⌝ }
+    requires { ⌜ (ramRefused (length (now ram)) ≡ false) × (takesPart (now ram) s cell ≡ true) ⌝ }
     ensures numbers { λ r. ⌜ now (numbers .exit) ≡ sets (now (numbers .entry)) 0 (meetingCells (now (ram .entry)) s cell) ⌝ }
     ensures count { λ r. ⌜ r ≡ length (meetingCells (now (ram .entry)) s cell) ⌝ }
 {

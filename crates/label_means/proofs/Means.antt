@@ -1,33 +1,30 @@
 -- The printed label means what it says: whoever stores a word in a cell's window is that cell, or stands in its label
 -- as able to write.
-use Prim.Native.Nat.{ℕ, _+_, _≤_, _<_}
+use Prim.Native.Nat.{ℕ, _<_}
 use native.Mathlib.Omega.{arith}
 use mathlib.Core.Path.{_≡_, refl, sym, _∙_}
 use mathlib.Core.Bool.{Bool, true, false, cond, _&&_}
 use mathlib.Core.List.{List}
-use lib.ListN.{length}
 use Rattle.words.specs.declared.settings.Settings.{Settings}
 use Rattle.words.specs.Command.{transmits, subaddressOf}
 use Rattle.words.specs.Number.{ramLength, modeSubaddress}
 use Rattle.words.specs.Settings.{isBroadcast}
 use Rattle.words.proofs.Commands.{data-subaddress}
 use Rattle.words.proofs.Refusals.{accepted}
-use Rattle.memory.specs.declared.kind.Kind.{Kind}
 use Rattle.memory.specs.declared.kind.Kind.the-variants.{Receive, Transmit, Broadcast}
 use Rattle.memory.specs.Kind.{cellNumber, kindNumbered, kindOf}
 use Rattle.memory.specs.State.{State}
 use Rattle.memory.proofs.Numbers.{number-kind}
 use Rattle.windows.specs.Window.{placeOf}
 use Rattle.windows.proofs.Wrap.{place-from, place-below}
-use Rattle.cells.specs.Cell.{cellWindow}
 use Rattle.area.specs.Area.{cellNumbered, groundRefusal}
 use Rattle.area.proofs.Before.{accepted-ground}
 use Rattle.area.proofs.Listed.{numbered-cell, command-read}
 use Rattle.label_spans.specs.Span.{windowNumbered}
-use Rattle.label.specs.Label.{takesPart, sharerNumbered}
+use Rattle.label.specs.Label.{sharerNumbered}
 use Rattle.label.proofs.Meeting.{TakesPart, part-facts}
 use Rattle.label.proofs.Shared.{Shares}
-use Rattle.label.proofs.Answers.{Marked, marked-shares, writes-exactly}
+use Rattle.label.proofs.Answers.{marked-shares, writes-exactly}
 use Rattle.lookup.specs.Target.{cellFor, targetOf}
 use Rattle.plan.specs.Deed.{deedWith, deedOf}
 use Rattle.message.specs.Heard.{Heard}
@@ -35,7 +32,7 @@ use Rattle.message.specs.Tests.{testsFor, refusalFor}
 use Rattle.message.specs.Message.{planFor}
 use Rattle.message.proofs.Sure.{Sure, accepted-sure}
 use Rattle.message.proofs.Step.{deedFor, deed-made, deed-window, target-some, stored-none}
-use Rattle.label_means.specs.Means.{StoresAt, InWindow, NamesWriter, LabelMeans}
+use Rattle.label_means.specs.Means.{LabelMeans}
 
 -- only a transmit command uses a transmit cell
 transmit-only : (t b : Bool) → cond t Transmit (cond b Broadcast Receive) ≡ Transmit → t ≡ true

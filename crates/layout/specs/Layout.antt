@@ -4,6 +4,7 @@ use mathlib.Core.Bool.{Bool, true, not, cond, _&&_}
 use mathlib.Core.List.{List, [], _∷_}
 use lib.ListN.{length, getD}
 use lib.Dec.{eqb}
+use Rattle.words.specs.Sizes.{recordBytes}
 use Rattle.records.specs.declared.value.Record.{Record}
 use Rattle.layout.specs.declared.reader.Reading.{Reading}
 use Rattle.words.specs.Fill.{fill}
@@ -52,7 +53,7 @@ breaksLayout s = not (gapZero s && keepsLayout (valueIn s))
 
 -- "record is not 80 bytes"
 abbrev pub wrongLength : List ℕ → Bool
-wrongLength s = not (eqb (length s) 80)
+wrongLength s = not (eqb (length s) recordBytes)
 
 -- "Result: the number, the rest zero"
 unfoldable pub notRead : ℕ → Reading

@@ -4,6 +4,7 @@ use mathlib.Core.Bool.{not, cond}
 use mathlib.Core.List.{List, [], _∷_, _++_}
 use lib.ListN.{getD, replicate}
 use lib.Dec.{eqb}
+use Rattle.words.specs.Sizes.{recordBytes}
 use Rattle.records.specs.declared.value.Record.{Record}
 use Rattle.layout.specs.declared.writer.Written.{Written}
 use Rattle.records.specs.Value.{keepsLayout}
@@ -13,7 +14,7 @@ use Rattle.layout.specs.Fields.{Field, putFields}
 
 -- "The writer starts from 80 zero bytes."
 abbrev pub zeroBytes : List ℕ
-zeroBytes = replicate 80 0
+zeroBytes = replicate recordBytes 0
 
 -- "Bytes 0-1 command; .. 4-5 time tag; 6 flags ..; 7 count; 8-15 zero"; "bytes 2-3 hold the transmit command"
 unfoldable pub headerFields : Record → List Field

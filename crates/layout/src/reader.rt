@@ -14,6 +14,7 @@ use words::choose::both;
 use words::choose::no;
 use words::number::RECORD_LAYOUT;
 use words::number::RECORD_LENGTH;
+use words::sizes::RECORD_BYTES;
 
 // What reading gives: the number, and the value where it is 0.
 pub struct Reading {
@@ -192,7 +193,7 @@ fn not_read(number: u16) -> Reading
 pub fn read(s: &[u8]) -> Reading
     ensures { λ r. ⌜ r ≡ readRecord (now (s .entry)) ⌝ }
 {
-    if s.len() != 80 {
+    if s.len() != RECORD_BYTES {
         return not_read(RECORD_LENGTH);
     }
     let v = value_in(s);

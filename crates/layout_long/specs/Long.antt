@@ -4,6 +4,7 @@ use mathlib.Core.Bool.{Bool, not, cond, _||_}
 use mathlib.Core.List.{List, [], _∷_}
 use lib.ListN.{length, take}
 use lib.Dec.{eqb}
+use Rattle.words.specs.Sizes.{recordBytes}
 use Rattle.layout.specs.declared.reader.Reading.{Reading}
 use Rattle.layout_long.specs.declared.reader.LongReading.{LongReading}
 use Rattle.layout_long.specs.declared.value.LongRecord.{LongRecord}
@@ -14,7 +15,7 @@ use Rattle.layout.specs.Layout.{wordAt, areZero, valueIn, breaksLayout, notRead
 
 -- "The new record has 96 bytes: the old 80"
 abbrev pub oldPart : List ℕ → List ℕ
-oldPart s = take 80 s
+oldPart s = take recordBytes s
 
 -- "then 80-81 the tag's upper half, 82-83 a member number"
 unfoldable pub longIn : List ℕ → LongRecord

@@ -3,7 +3,8 @@
 use Prim.Native.Nat.{ℕ, _≤_, _<_}
 use native.Mathlib.Omega.{arith}
 use mathlib.Core.Path.{_≡_}
-use mathlib.Core.Bool.{Bool, false}
+use mathlib.Core.Logic.{⊎-elim}
+use mathlib.Core.Bool.{Bool, true, false, _||_}
 use lib.Dec.{eqb}
 use borrow.Author.Tests.{eqb-true, not-false}
 use Rattle.words.specs.declared.settings.Area.{Area}
@@ -13,6 +14,7 @@ use Rattle.memory.specs.declared.kind.Kind.{Kind}
 use Rattle.memory.specs.declared.kind.Kind.the-variants.{Receive, Transmit, Broadcast}
 use Rattle.memory.specs.Map.{ramRefused, stackPointerPlace, lookupTable, lookupPlace, controlPlace, busyPlace, illegalPlace}
 use Rattle.memory.specs.Kind.{kindNumber}
+use Rattle.words.proofs.Basics.{yes-or-no}
 use Rattle.words.proofs.BitLaws.{bit-small}
 
 pub record Between (low high x : ℕ) : Type 0 where
@@ -74,8 +76,12 @@ control-not-stack-pointer area sub e = omega (arith, table-between area, stack-p
 pub ram-between : (words : ℕ) → ramRefused words ≡ false → (0x400 ≤ words) × (words ≤ 65536)
 unfolding ramRefused
 ram-between words e =
-    let q = eqb-true words 4096 (not-false (eqb words 4096) e) in
-    (omega arith, omega arith)
+    ⊎-elim
+    (λ (small : eqb words 4096 ≡ true). let q = eqb-true words 4096 small in (omega arith, omega arith))
+    (λ (other : eqb words 4096 ≡ false).
+    let large : eqb words 65536 ≡ true = rw other at (not-false (eqb words 4096 || eqb words 65536) e) in
+    let q = eqb-true words 65536 large in (omega arith, omega arith))
+    (yes-or-no (eqb words 4096))
 
 -- an address that is in RAM and in no fixed area
 pub record OrdinaryAddress (words x : ℕ) : Type 0 where

@@ -1,6 +1,6 @@
 -- The memory map (document 01, "Memory map (hexadecimal)").
 use Prim.Native.Nat.{ℕ, _+_, _*_, _/_, _%_, _^_}
-use mathlib.Core.Bool.{Bool, not}
+use mathlib.Core.Bool.{Bool, not, _||_}
 use mathlib.Core.List.{List}
 use lib.ListN.{getD}
 use lib.Dec.{eqb}
@@ -9,9 +9,10 @@ use Rattle.words.specs.declared.settings.Area.the-variants.{A, B}
 use Rattle.words.specs.Bits.{bitOf}
 use Rattle.words.specs.Command.{transmits, subaddressOf, countField}
 
--- refusal 1: "RAM is not 4,096 words". No other rule names the RAM's length.
+-- refusal 1: "RAM is not 4,096 words"; "Newer cards have 65,536 words; the same terminal must take either RAM.", and 1
+-- is "for any other length". No other rule names the RAM's length.
 unfoldable pub ramRefused : ℕ → Bool
-ramRefused words = not (eqb words 4096)
+ramRefused words = not (eqb words 4096 || eqb words 65536)
 
 -- "0100 / 0104: stack pointer, area A / B"
 unfoldable pub stackPointerPlace : Area → ℕ

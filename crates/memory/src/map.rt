@@ -4,13 +4,15 @@ ghost use Prim.Native.Nat.{_<_};
 ghost use Rattle.memory.specs.Map.{ramRefused, stackPointerPlace, lookupTable, controlPlace, busyPlace, illegalPlace, bitSet, isBusyAt, isIllegalAt};
 use crate::ram::word_at;
 use words::bits::bit_of;
+use words::choose::either;
+use words::choose::no;
 use words::command;
 use words::settings::Area;
 
 pub fn ram_refused(words: usize) -> bool
     ensures { λ r. ⌜ r ≡ ramRefused words ⌝ }
 {
-    words != 4096
+    no(either(words == 4096, words == 65536))
 }
 
 pub fn stack_pointer_place(area: Area) -> usize

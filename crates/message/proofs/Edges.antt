@@ -1,4 +1,4 @@
--- P1 to P12: one table, one statement.
+-- P1 to P12, and three on the 64K card: one table, one statement.
 use mathlib.Core.Path.{_≡_, refl}
 use mathlib.Core.List.{map}
 use Rattle.words.specs.Bits.{bitsOf}

@@ -3,6 +3,7 @@ pub mod Step
 pub mod Kept
 pub mod Refusals
 pub mod Only
+pub mod Below
 pub mod InTurn
 pub mod FromBytes
 pub mod FromLong

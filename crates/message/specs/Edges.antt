@@ -1,5 +1,5 @@
--- The cases marked P of "Both sides of each edge", as one table: what each case starts from, and the row that it must
--- give.
+-- The cases marked P of "Both sides of each edge", as one table, and three on the 64K card: what each case starts from,
+-- and the row that it must give.
 use Prim.Native.Nat.{ℕ, _+_, _%_}
 use mathlib.Core.Bool.{Bool, true, false}
 use mathlib.Core.List.{List, [], _∷_, _++_}
@@ -23,8 +23,9 @@ use Rattle.writes.specs.Reply.{replyWords}
 use Rattle.message.specs.Heard.{heardValue}
 use Rattle.message.specs.Message.{planFor, answerOf, step}
 
--- what a case starts from: blank RAM with some words written, settings, the record
+-- what a case starts from: blank RAM of so many words with some of them written, settings, the record
 pub record Case : Type 0 where
+  pub words : ℕ
   pub image : List Write
   pub settings : Settings
   pub value : Record
@@ -46,7 +47,7 @@ pub record Row : Type 0 where
   pub busy : TableBit
 
 abbrev pub imageOf : Case → List ℕ
-imageOf c = applyWrites (c .image) (replicate 4096 0)
+imageOf c = applyWrites (c .image) (replicate (c .words) 0)
 
 abbrev pub startOf : Case → State
 startOf c = stateOf (imageOf c) (replicate 33 0) nothingRemembered
@@ -79,9 +80,12 @@ runCase c =
 abbrev pub put : ℕ → ℕ → Write
 put at word = record { at = at; word = word }
 
--- the pointer, and the control word: circular 128 with the circular interrupt, or double
+-- the pointer, and the control word: circular with the circular interrupt, of 128 words or another size, or double
+abbrev circle : ℕ → ℕ → List Write
+circle control pointer = put 0x143 pointer ∷ put 0x1A3 control ∷ []
+
 abbrev circular : ℕ → List Write
-circular pointer = put 0x143 pointer ∷ put 0x1A3 0x120 ∷ []
+circular pointer = circle 0x120 pointer
 
 abbrev double : ℕ → List Write
 double pointer = put 0x143 pointer ∷ put 0x1A3 0x8000 ∷ []
@@ -99,7 +103,10 @@ heard command flags count =
     }
 
 abbrev case : List Write → Bool → Record → Case
-case image overwrite v = record { image = image; settings = plainSettings overwrite; value = v }
+case image overwrite v = record { words = 4096; image = image; settings = plainSettings overwrite; value = v }
+
+abbrev large : List Write → Record → Case
+large image v = record { words = 65536; image = image; settings = plainSettings true; value = v }
 
 unfoldable pub cases : List Case
 cases =
@@ -127,6 +134,12 @@ cases =
     ∷ case (put 0x244 8 ∷ circular 0x47E) true (heard 0x2864 0 4)
     -- P12 broadcast F864, valid
     ∷ case (circular 0x47E) true (heard 0xF864 0 4)
+    -- "Circular sizes 4,096 and 8,192 become usable where sound.": over the end of 8,192 words from 2000
+    ∷ large (circle 0x1E0 0x3FFE) (heard 0x2864 0 4)
+    -- of 4,096 words that end with RAM
+    ∷ large (circle 0x1C0 0xFFFE) (heard 0x2864 0 4)
+    -- "the highest stack pointer 4 below its length", and 4,096 words from 1000
+    ∷ large (put 0x100 0xFFFC ∷ circle 0x1C0 0x1FFE) (heard 0x2864 0 4)
     ∷ []
 
 -- ---- the rows
@@ -276,5 +289,37 @@ expected =
       expects = 4;
       illegal = bit 0x306 4;
       busy = bit 0x240 3;
+    }
+    -- 8,192 words from 2000
+    ∷ record {
+      answer = done 0x8080 0x3FFE 0x2002 0x2800 true 0x403;
+      remembered = remembering nothingRemembered 0x2864 0x2800;
+      sends = 0x2800 ∷ [];
+      writes = put 0x3FFE 1 ∷ put 0x3FFF 2 ∷ put 0x2000 3 ∷ put 0x2001 4 ∷ put 0x143 0x2002 ∷ entry 0x8080 0x3FFE 0x2864;
+      expects = 4;
+      illegal = bit 0x386 4;
+      busy = bit 0x244 3;
+    }
+    -- 4,096 words that end with RAM
+    ∷ record {
+      answer = done 0x8080 0xFFFE 0xF002 0x2800 true 0x403;
+      remembered = remembering nothingRemembered 0x2864 0x2800;
+      sends = 0x2800 ∷ [];
+      writes = put 0xFFFE 1 ∷ put 0xFFFF 2 ∷ put 0xF000 3 ∷ put 0xF001 4 ∷ put 0x143 0xF002 ∷ entry 0x8080 0xFFFE 0x2864;
+      expects = 4;
+      illegal = bit 0x386 4;
+      busy = bit 0x244 3;
+    }
+    -- the stack's last entry, and 4,096 words from 1000
+    ∷ record {
+      answer = done 0x8080 0x1FFE 0x1002 0x2800 true 0x443;
+      remembered = remembering nothingRemembered 0x2864 0x2800;
+      sends = 0x2800 ∷ [];
+      writes =
+          put 0x1FFE 1 ∷ put 0x1FFF 2 ∷ put 0x1000 3 ∷ put 0x1001 4 ∷ put 0x143 0x1002
+          ∷ put 0xFFFC 0x8080 ∷ put 0xFFFD 0x789 ∷ put 0xFFFE 0x1FFE ∷ put 0xFFFF 0x2864 ∷ put 0x100 0xFF00 ∷ [];
+      expects = 4;
+      illegal = bit 0x386 4;
+      busy = bit 0x244 3;
     }
     ∷ []

@@ -37,7 +37,8 @@ cellFaults words stack c =
     (windowsMeet (cellWindow c) stack)
 
 -- "The stack is sound if its pointer is a multiple of 4, at most 0FFC, and the block aligned to the stack size around
--- it lies in RAM and meets no fixed area." 0FFC is four below the RAM's length.
+-- it lies in RAM and meets no fixed area." With the 64K card:
+-- "soundness is against the given RAM's end, with the highest stack pointer 4 below its length."
 unfoldable pub stackFaults : List ℕ → Settings → ℕ
 stackFaults ram s =
     faultsOf

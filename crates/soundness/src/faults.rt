@@ -61,8 +61,8 @@ pub fn cell_faults(words: usize, stack: Window, c: Cell) -> u16
     )
 }
 
-// Of the stack: 1 its pointer is no multiple of 4, 2 it is over 0FFC, 4 its block goes over RAM's end, 8 and 16 its
-// block meets a fixed area.
+// Of the stack: 1 its pointer is no multiple of 4, 2 it is over 0FFC (FFFC on the 64K card), 4 its block goes over RAM's
+// end, 8 and 16 its block meets a fixed area.
 pub fn stack_faults(ram: &[u16], s: Settings) -> u16
     ensures { λ r. ⌜ r ≡ stackFaults (now (ram .entry)) s ⌝ }
 {

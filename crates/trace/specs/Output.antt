@@ -5,6 +5,7 @@ use mathlib.Core.Path.{_≡_}
 use mathlib.Core.List.{List, [], _∷_, _++_}
 use lib.ListN.{length, take, drop, replicate}
 use lib.Dec.{ltb}
+use Rattle.words.specs.Sizes.{recordBytes}
 use Rattle.words.specs.Settings.{programSettings}
 use Rattle.words.specs.Remembered.{nothingRemembered}
 use Rattle.trace_ends.specs.Image.{imageRam, imageLine}
@@ -14,7 +15,7 @@ use Rattle.trace.specs.Walk.{Walk, walkStart, walkAll, anew}
 -- from a walk on to the end of the trace: a line for each whole record, and the last lines
 unfoldable pub textToEnd : List ℕ → Walk → List ℕ
 textToEnd trace w =
-    walkAll programSettings trace w .text ++ lastLines (length trace % 80) (walkAll programSettings trace w .number)
+    walkAll programSettings trace w .text ++ lastLines (length trace % recordBytes) (walkAll programSettings trace w .number)
 
 unfoldable pub traceText : List ℕ → List ℕ → List ℕ
 traceText ram trace = textToEnd trace (walkStart ram (replicate 33 0) nothingRemembered 0)
@@ -39,4 +40,4 @@ refilled (full ∷ fulls) rest = full ++ refilled fulls rest
 -- each refill is a whole number of records
 unfoldable pub WholeRefills : List (List ℕ) → Type 0
 WholeRefills [] = Unit
-WholeRefills (full ∷ fulls) = (length full % 80 ≡ 0) × WholeRefills fulls
+WholeRefills (full ∷ fulls) = (length full % recordBytes ≡ 0) × WholeRefills fulls

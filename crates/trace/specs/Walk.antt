@@ -4,6 +4,7 @@ use Prim.Native.Nat.{ℕ, zero, suc, _+_, _*_, _/_, _%_, _^_}
 use mathlib.Core.Path.{_≡_}
 use mathlib.Core.List.{List, [], _++_}
 use lib.ListN.{length, take, drop}
+use Rattle.words.specs.Sizes.{recordBytes}
 use Rattle.words.specs.declared.settings.Settings.{Settings}
 use Rattle.words.specs.declared.remembered.Remembered.{Remembered}
 use Rattle.memory.specs.State.{State, stateOf}
@@ -15,10 +16,10 @@ use Rattle.text.specs.Line.{lineOf}
 
 -- record n of a trace, counted from 0
 abbrev pub recordAt : List ℕ → ℕ → List ℕ
-recordAt trace n = take 80 (drop (80 * n) trace)
+recordAt trace n = take recordBytes (drop (recordBytes * n) trace)
 
 abbrev pub wholeRecords : List ℕ → ℕ
-wholeRecords trace = length trace / 80
+wholeRecords trace = length trace / recordBytes
 
 -- what stands after some records: the terminal, the number of the last record, the text so far
 pub record Walk : Type 0 where

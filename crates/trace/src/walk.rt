@@ -10,6 +10,7 @@ use text::table::hex_table;
 use text::text::put_decimal;
 use words::remembered::Remembered;
 use words::settings::Settings;
+use words::sizes::RECORD_BYTES;
 
 // What walking hands back: the remembered state, the last record's number, and how much text stands in the buffer.
 pub struct Walked {
@@ -63,7 +64,7 @@ fn walk_records(
     ensures reply { λ r. ⌜ now (reply .exit) ≡ walkAll s (now (trace .entry)) (walkStart (now (ram .entry)) (now (reply .entry)) before number) .state .reply ⌝ }
     ensures out { λ r. ⌜ now (out .exit) ≡ sets (now (out .entry)) 0 (walkAll s (now (trace .entry)) (walkStart (now (ram .entry)) (now (reply .entry)) before number) .text) ⌝ }
 {
-    let records = trace.len() / 80;
+    let records = trace.len() / RECORD_BYTES;
     let mut w = Walked {
         remembered: before,
         number,
@@ -71,8 +72,8 @@ fn walk_records(
     };
     let mut i: usize = 0;
     while i < records {
-        let at = 80 * i;
-        w = walk_one(ram, reply, out, s, w, &trace[at..at + 80], table);
+        let at = RECORD_BYTES * i;
+        w = walk_one(ram, reply, out, s, w, &trace[at..at + RECORD_BYTES], table);
         i += 1;
     }
     w

@@ -14,6 +14,7 @@ use trace_ends::last_lines::put_last_lines;
 use words::remembered::Remembered;
 use words::remembered::nothing_remembered;
 use words::settings::program_settings;
+use words::sizes::RECORD_BYTES;
 
 // Where the walk stands after a refill: how many bytes are left over, whether nothing failed so far, and whether the
 // input may go on.
@@ -60,7 +61,7 @@ fn refill(
     Standing {
         remembered,
         number: w.number,
-        left: got % 80,
+        left: got % RECORD_BYTES,
         well: written && !filled.failed,
         more: written && got == buffer.len(),
     }

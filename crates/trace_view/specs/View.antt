@@ -5,12 +5,13 @@ use mathlib.Core.Bool.{Bool, true, false, cond}
 use mathlib.Core.List.{List}
 use lib.ListN.{length, take, drop}
 use lib.Dec.{leb}
+use Rattle.words.specs.Sizes.{recordBytes}
 use Rattle.layout.specs.Layout.{readRecord, notRead}
 use Rattle.trace_view.specs.declared.view.Taken.{Taken}
 
 -- the 80 bytes at the place are there: false also where the place lies beyond the end
 abbrev pub hasRecord : List ℕ → ℕ → Bool
-hasRecord trace at = leb (at + 80) (length trace)
+hasRecord trace at = leb (at + recordBytes) (length trace)
 
 -- none, and the place as it was
 unfoldable pub noneAt : ℕ → Taken
@@ -20,5 +21,5 @@ noneAt at = record { found = false; at = at; reading = notRead 0 }
 unfoldable pub takenAt : List ℕ → ℕ → Taken
 takenAt trace at =
     cond (hasRecord trace at)
-    (record { found = true; at = at + 80; reading = readRecord (take 80 (drop at trace)) })
+    (record { found = true; at = at + recordBytes; reading = readRecord (take recordBytes (drop at trace)) })
     (noneAt at)

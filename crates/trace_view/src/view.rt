@@ -5,6 +5,7 @@ ghost use Rattle.trace_view.specs.View.{hasRecord, noneAt, takenAt};
 use layout::reader::Reading;
 use layout::reader::read;
 use records::value::zero_value;
+use words::sizes::RECORD_BYTES;
 
 pub struct View<'a> {
     pub trace: &'a [u8],
@@ -38,7 +39,7 @@ fn has_record(trace: &[u8], at: usize) -> bool
     if trace.len() < at {
         return false;
     }
-    80 <= trace.len() - at
+    RECORD_BYTES <= trace.len() - at
 }
 
 // The work: the record at a place of a slice.
@@ -46,10 +47,10 @@ pub fn take_at(trace: &[u8], at: usize) -> Taken
     ensures { λ r. ⌜ r ≡ takenAt (now (trace .entry)) at ⌝ }
 {
     if has_record(trace, at) {
-        let reading = read(&trace[at..at + 80]);
+        let reading = read(&trace[at..at + RECORD_BYTES]);
         return Taken {
             found: true,
-            at: at + 80,
+            at: at + RECORD_BYTES,
             reading,
         };
     }

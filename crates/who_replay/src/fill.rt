@@ -10,6 +10,7 @@ use who_tables::table::Filling;
 use who_tables::table::mark_plan;
 use who_tables::tests::fill_refusal;
 use words::settings::Settings;
+use words::sizes::RECORD_BYTES;
 
 // The number that refuses, or 0, and where the replay stands.
 pub struct Filled {
@@ -55,12 +56,12 @@ fn fill_all(
 ) -> Filling
     ensures { λ r. ⌜ tablesOf (now (ram .exit)) (now (numbers .exit)) (now (marks .exit)) r ≡ fillAll s (heardIn (now (trace .entry))) (tablesOf (now (ram .entry)) (now (numbers .entry)) (now (marks .entry)) at) ⌝ }
 {
-    let records = trace.len() / 80;
+    let records = trace.len() / RECORD_BYTES;
     let mut w = at;
     let mut i: usize = 0;
     while i < records {
-        let from = 80 * i;
-        w = fill_record(ram, numbers, marks, s, w, &trace[from..from + 80]);
+        let from = RECORD_BYTES * i;
+        w = fill_record(ram, numbers, marks, s, w, &trace[from..from + RECORD_BYTES]);
         i += 1;
     }
     w

@@ -12,6 +12,7 @@ use who::values::values_of;
 use who_origin::origin::Who;
 use who_origin::origin::who_wrote;
 use words::settings::Settings;
+use words::sizes::RECORD_BYTES;
 
 // One record more.
 fn replay_record(ram: &mut [u16], s: Settings, address: u16, at: Standing, bytes: &[u8]) -> Standing
@@ -43,12 +44,12 @@ fn replay_record(ram: &mut [u16], s: Settings, address: u16, at: Standing, bytes
 fn replay_all(ram: &mut [u16], s: Settings, address: u16, at: Standing, trace: &[u8]) -> Standing
     ensures { λ r. ⌜ replayOf (now (ram .exit)) r ≡ replay s address (heardIn (now (trace .entry))) (replayOf (now (ram .entry)) at) ⌝ }
 {
-    let records = trace.len() / 80;
+    let records = trace.len() / RECORD_BYTES;
     let mut w = at;
     let mut i: usize = 0;
     while i < records {
-        let from = 80 * i;
-        w = replay_record(ram, s, address, w, &trace[from..from + 80]);
+        let from = RECORD_BYTES * i;
+        w = replay_record(ram, s, address, w, &trace[from..from + RECORD_BYTES]);
         i += 1;
     }
     w

@@ -5,3 +5,4 @@ pub mod Number
 pub mod Refusal
 pub mod Remembered
 pub mod Settings
+pub mod Sizes

@@ -2,7 +2,7 @@
 -- `src/number.rt` has the same names for the code.
 use Prim.Native.Nat.{ℕ}
 
--- "RAM is not 4,096 words"
+-- "RAM is not 4,096 words"; and since the 64K card, "1 for any other length" than these and 65,536
 abbrev pub ramLength : ℕ
 ramLength = 1
 

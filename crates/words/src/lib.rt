@@ -6,3 +6,4 @@ pub mod command;
 pub mod number;
 pub mod remembered;
 pub mod settings;
+pub mod sizes;

@@ -1,6 +1,6 @@
 // The numbers that refuse, by name. Document 01, "Numbers that refuse", in its order, and then those of document 02.
 
-// 1: RAM is not 4,096 words
+// 1: RAM is neither 4,096 nor 65,536 words
 pub const RAM_LENGTH: u16 = 1;
 // 2: reply buffer under 33 words
 pub const REPLY_ROOM: u16 = 2;

@@ -33,13 +33,37 @@ pub struct State {
 
 impl Default for State {
     fn default() -> State {
-        let mut ram = vec![0; RAM_WORDS + GUARD_WORDS];
-        ram[RAM_WORDS..].fill(GUARD);
+        State::of_card(RAM_WORDS)
+    }
+}
+
+impl State {
+    /// A card with so many words of RAM.
+    pub fn of_card(ram_words: usize) -> State {
+        let mut ram = vec![0; ram_words + GUARD_WORDS];
+        ram[ram_words..].fill(GUARD);
         State {
             ram,
             reply: vec![0; REPLY_ROOM],
             remembered: Remembered::default(),
         }
+    }
+
+    /// How many words of RAM its card has.
+    pub fn card_words(&self) -> usize {
+        self.ram.len() - GUARD_WORDS
+    }
+
+    /// The RAM of its card.
+    pub fn card(&self) -> &[u16] {
+        &self.ram[..self.card_words()]
+    }
+
+    /// Whether another state is the same, of RAM in its first words alone.
+    pub fn begins_as(&self, other: &State, words: usize) -> bool {
+        self.ram[..words] == other.ram[..words]
+            && self.reply == other.reply
+            && self.remembered == other.remembered
     }
 }
 

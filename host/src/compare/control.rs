@@ -6,6 +6,7 @@ pub mod sides;
 
 use std::fmt::Write;
 
+use crate::compare::episode::card_of;
 use crate::controller::opcode::{OpCode, Operation};
 use crate::controller::{End, Machine, Outcome, Ran};
 use crate::random::Random;
@@ -40,7 +41,7 @@ impl Asked {
     pub fn draw(seed: u64) -> Asked {
         let mut random = Random::new(seed);
         let mut asked = Asked {
-            ram: vec![0; RAM_WORDS],
+            ram: vec![0; card_of(seed)],
             start: 0,
             flags: random.draw() as u8,
             trace: trace(&mut random),
@@ -63,7 +64,8 @@ impl Asked {
     /// Pairs of words from a random place on, often near RAM's end.
     fn draw_list(&mut self, random: &mut Random) {
         let pairs = random.pick(&[2, 5, 12, 30]);
-        let room = RAM_WORDS - 2 * pairs;
+        let words = self.ram.len();
+        let room = words - 2 * pairs;
         let base = match random.below(4) {
             0 => room - random.below(3),
             1 => random.below(3),
@@ -74,7 +76,7 @@ impl Asked {
             let parameter = match random.below(12) {
                 0 => random.word(),
                 1 => (base + random.below(2 * pairs)) as u16,
-                2 => random.pick(&[RAM_WORDS - 1, RAM_WORDS - 2, RAM_WORDS, 0]) as u16,
+                2 => random.pick(&[words - 1, words - 2, words, 0]) as u16,
                 _ => (base + 2 * random.below(pairs)) as u16,
             };
             self.ram[base + 2 * pair] = op;
@@ -85,12 +87,14 @@ impl Asked {
 
     fn spoil(&mut self, random: &mut Random) {
         if random.chance(SPOILED_ONE_IN) {
-            let words = random.pick(&[0, 1, RAM_WORDS - 1, RAM_WORDS + 1, 65_536]);
+            let words = self.ram.len();
+            let words = random.pick(&[0, 1, words - 1, words + 1, 12_288]);
             self.ram.resize(words, 0);
         }
         if random.chance(SPOILED_ONE_IN) {
-            let last = RAM_WORDS as u16 - 1;
-            self.start = random.pick(&[last - 1, last, last + 1, 0xFFFF, 0]);
+            let last = self.ram.len().wrapping_sub(1) as u16;
+            let behind = last.wrapping_add(1);
+            self.start = random.pick(&[last.wrapping_sub(1), last, behind, 0xFFFF, 0]);
         }
     }
 

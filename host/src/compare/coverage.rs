@@ -4,7 +4,7 @@ mod transfers;
 
 use super::case::{Answers, Message, Request, State};
 use super::classes;
-use crate::terminal::cells::{Cell, Kind, Scheme, Stack, RAM_WORDS};
+use crate::terminal::cells::{Cell, Kind, Scheme, Stack, LARGE_RAM_WORDS, RAM_WORDS};
 use crate::terminal::message::cell_kind;
 use crate::terminal::records::{
     read_record, Record, FLAG_BUS_B, FLAG_INVALID_WORD, FLAG_WRONG_SYNC, TOO_MANY,
@@ -18,6 +18,7 @@ classes! {
     FromValue "messages from values",
     Accepted "accepted",
     Refused1 "refused with 1, RAM length",
+    Refused1Between "refused with 1, a length between those of the two cards",
     Refused2 "refused with 2, reply length",
     Refused3 "refused with 3, settings",
     Refused3At31 "refused with 3, our own address 31 with broadcast on",
@@ -37,6 +38,7 @@ classes! {
     Refused7 "refused with 7, subaddress",
     Refused8 "refused with 8, stack",
     Refused9 "refused with 9, cell",
+    Refused9Beyond "refused with 9, a pointer over 0FFF on the small card",
     Transfer6 "transfer refused with 6",
     Transfer7 "transfer refused with 7",
     SingleReceive "single, receive",
@@ -52,7 +54,16 @@ classes! {
     Circle512 "circular of 512 words",
     Circle1024 "circular of 1024 words",
     Circle2048 "circular of 2048 words",
-    CircleTooLarge "circular of 4096 or 8192 words, refused",
+    Circle4096 "circular of 4096 words, on the 64K card",
+    Circle8192 "circular of 8192 words, on the 64K card",
+    CircleTooLarge "circular of 4096 or 8192 words, refused on the small card",
+    CircleTooLow "circular of 4096 or 8192 words, refused on the 64K card",
+    SmallCard "on the card of 4,096 words",
+    LargeCard "on the 64K card",
+    OverSmallEnd "window from below 1000 to beyond it",
+    BeyondSmallEnd "window beyond 0FFF",
+    AtLargeEnd "window up to the end of the 64K card",
+    StackAtLargeEnd "stack pointer 4 below the end of the 64K card",
     PointerFlipped "double pointer flipped",
     PointerMoved "circular pointer moved",
     PointerKept "circular pointer kept back after a fault",
@@ -186,7 +197,8 @@ impl Coverage {
             (record_of(&request.message), &before.cell)
         {
             self.take_in_settings(request.settings);
-            self.take_in_place(cell, stack);
+            self.take_in_place(cell, stack, request.ram_words);
+            self.take_in_card(cell, stack, request.ram_words);
             self.take_in_accepted(&request.settings, &record, cell, answer);
         }
     }
@@ -224,9 +236,16 @@ impl Coverage {
         };
         self.note(class, true);
         self.take_in_31(request, number);
-        if let Some((cell, _)) = &before.cell {
-            let too_large = matches!(cell.scheme, Scheme::Circular(4096 | 8192));
-            self.note(Class::CircleTooLarge, number == 9 && too_large);
+        let between = RAM_WORDS + 1..LARGE_RAM_WORDS;
+        let is_between = between.contains(&request.ram_words);
+        self.note(Class::Refused1Between, number == 1 && is_between);
+        if let (9, Some((cell, _))) = (number, &before.cell) {
+            let is_large = matches!(cell.scheme, Scheme::Circular(4096 | 8192));
+            let on_small = request.ram_words == RAM_WORDS;
+            self.note(Class::CircleTooLarge, is_large && on_small);
+            self.note(Class::CircleTooLow, is_large && !on_small);
+            let is_beyond = usize::from(cell.pointer) >= RAM_WORDS;
+            self.note(Class::Refused9Beyond, is_beyond && on_small);
         }
     }
 
@@ -261,7 +280,21 @@ impl Coverage {
         );
     }
 
-    fn take_in_place(&mut self, cell: &Cell, stack: &Stack) {
+    /// What the 64K card has and the other has not.
+    fn take_in_card(&mut self, cell: &Cell, stack: &Stack, ram_words: usize) {
+        use Class::*;
+        let window = cell.window();
+        self.either(LargeCard, SmallCard, ram_words == LARGE_RAM_WORDS);
+        self.note(Circle4096, cell.scheme == Scheme::Circular(4096));
+        self.note(Circle8192, cell.scheme == Scheme::Circular(8192));
+        let is_over = window.start < RAM_WORDS && window.end > RAM_WORDS;
+        self.note(OverSmallEnd, is_over);
+        self.note(BeyondSmallEnd, window.start >= RAM_WORDS);
+        self.note(AtLargeEnd, window.end == LARGE_RAM_WORDS);
+        self.note(StackAtLargeEnd, stack.pointer == 0xFFFC);
+    }
+
+    fn take_in_place(&mut self, cell: &Cell, stack: &Stack, ram_words: usize) {
         use Class::*;
         let window = cell.window();
         let (single, double, circular) = match cell.kind {
@@ -279,7 +312,7 @@ impl Coverage {
         self.note(Circle512, cell.scheme == Scheme::Circular(512));
         self.note(Circle1024, cell.scheme == Scheme::Circular(1024));
         self.note(Circle2048, cell.scheme == Scheme::Circular(2048));
-        self.note(AtRamEnd, window.end == RAM_WORDS);
+        self.note(AtRamEnd, window.end == ram_words);
         let block = &stack.block;
         let beside_stack = window.end == block.start || window.start == block.end;
         self.note(BesideStack, beside_stack);

@@ -8,7 +8,8 @@
 use super::case::{Message, Request, State, GUARD_WORDS, REPLY_ROOM};
 use crate::random::Random;
 use crate::terminal::cells::{
-    control_place, lookup_place, stack_pointer_place, Cell, Kind, Scheme, Stack, RAM_WORDS,
+    control_place, lookup_place, stack_pointer_place, Cell, Kind, Scheme, Stack, LARGE_RAM_WORDS,
+    RAM_WORDS,
 };
 use crate::terminal::message::{cell_kind, REPLY_WORDS};
 use crate::terminal::records::{put_together, Record, RECORD_BYTES, RECORD_WORDS};
@@ -34,9 +35,31 @@ const KINDS: [Kind; 3] = [Kind::Receive, Kind::Transmit, Kind::Broadcast];
 /// A word that the host puts into RAM between two messages.
 type Poke = (usize, u16);
 
+/// The card of a seed: one of three is the 64K card.
+pub fn card_of(seed: u64) -> usize {
+    if seed % 3 == 0 {
+        LARGE_RAM_WORDS
+    } else {
+        RAM_WORDS
+    }
+}
+
+/// Random words; on the 64K card no two stretches of 4,096 are the same.
+pub fn fill_ram(random: &mut Random, ram: &mut [u16]) {
+    let (first, behind) = ram.split_at_mut(RAM_WORDS);
+    first.fill_with(|| random.word());
+    for (stretch, words) in (1..).zip(behind.chunks_mut(RAM_WORDS)) {
+        for (word, first) in words.iter_mut().zip(&*first) {
+            *word = first.wrapping_add(0x1357_u16.wrapping_mul(stretch));
+        }
+    }
+}
+
 pub struct Episode {
     random: Random,
     settings: Settings,
+    /// How many words of RAM the card has.
+    ram_words: usize,
     /// Puts right what was spoiled for the last message.
     mend: Vec<Poke>,
     /// What the host has put into RAM for the next message.
@@ -48,13 +71,19 @@ impl Episode {
     pub fn new(seed: u64) -> (Episode, State) {
         let mut random = Random::new(seed);
         let settings = random.settings();
-        Episode::with_settings(random, settings)
+        Episode::on_card(random, settings, card_of(seed))
     }
 
+    /// On the card of 4,096 words.
     pub fn with_settings(random: Random, settings: Settings) -> (Episode, State) {
+        Episode::on_card(random, settings, RAM_WORDS)
+    }
+
+    pub fn on_card(random: Random, settings: Settings, ram_words: usize) -> (Episode, State) {
         let mut episode = Episode {
             random,
             settings,
+            ram_words,
             mend: Vec::new(),
             pokes: Vec::new(),
         };
@@ -63,10 +92,10 @@ impl Episode {
     }
 
     fn state(&mut self) -> State {
-        let mut state = State::default();
+        let mut state = State::of_card(self.ram_words);
         if !self.random.chance(4) {
             let random = &mut self.random;
-            state.ram[..RAM_WORDS].fill_with(|| random.word());
+            fill_ram(random, &mut state.ram[..self.ram_words]);
             state.reply.fill_with(|| random.word());
         }
         self.fill_tables(&mut state.ram);
@@ -111,7 +140,7 @@ impl Episode {
         self.aim(state, command);
         let mut request = Request {
             settings: self.settings,
-            ram_words: RAM_WORDS,
+            ram_words: self.ram_words,
             reply_words: self
                 .random
                 .pick(&[REPLY_WORDS, REPLY_WORDS, 34, REPLY_ROOM]),
@@ -130,16 +159,8 @@ impl Episode {
 
     /// Now and then, too little or too much is lent, or no terminal is set so.
     fn spoil_request(&mut self, request: &mut Request) {
-        const LENGTHS: [usize; 6] = [
-            0,
-            1,
-            256,
-            RAM_WORDS - 1,
-            RAM_WORDS + 1,
-            RAM_WORDS + GUARD_WORDS,
-        ];
         if self.random.chance(SPOILED_ONE_IN) {
-            request.ram_words = self.random.pick(&LENGTHS);
+            request.ram_words = self.bad_length();
         }
         if self.random.chance(SPOILED_ONE_IN) {
             request.reply_words = self.random.pick(&[0, 1, 16, REPLY_WORDS - 1]);
@@ -147,6 +168,17 @@ impl Episode {
         if self.random.chance(SPOILED_ONE_IN) {
             self.spoil_settings(&mut request.settings);
         }
+    }
+
+    /// A length that no card has, or of the 64K card as much as the other has.
+    fn bad_length(&mut self) -> usize {
+        let words = self.ram_words;
+        let lengths = [0, 1, 256, words - 1, words + 1, words + GUARD_WORDS];
+        if words == LARGE_RAM_WORDS && self.random.chance(2) {
+            let between = [RAM_WORDS - 1, RAM_WORDS, RAM_WORDS, RAM_WORDS + 1, 12_288];
+            return self.random.pick(&between);
+        }
+        self.random.pick(&lengths)
     }
 
     pub fn pokes(&self) -> &[Poke] {
@@ -263,9 +295,13 @@ impl Episode {
     fn sound_stack_pointer(&mut self, ram: &[u16]) -> u16 {
         let mut ram = ram.to_vec();
         let place = stack_pointer_place(&self.settings);
+        if self.ram_words == LARGE_RAM_WORDS && self.random.chance(8) {
+            // The last entries of RAM.
+            return 0xFFFC - 4 * self.random.below(3) as u16;
+        }
         loop {
-            ram[place] = 4 * self.random.below(RAM_WORDS / 4) as u16;
-            if Stack::read(&ram, &self.settings).is_sound(RAM_WORDS) {
+            ram[place] = 4 * self.random.below(self.ram_words / 4) as u16;
+            if Stack::read(&ram, &self.settings).is_sound(self.ram_words) {
                 return ram[place];
             }
         }
@@ -291,6 +327,7 @@ impl Episode {
     fn sound_place(&mut self, stack: &Stack, kind: Kind, double: bool) -> (u16, u16) {
         let wanted = match self.random.below(2) {
             0 => 0,
+            _ if self.ram_words == LARGE_RAM_WORDS => 1 + self.random.below(7) as u16,
             _ => 1 + self.random.below(5) as u16,
         };
         // There is always room for a single or a double window.
@@ -299,7 +336,7 @@ impl Episode {
             let tries = if size_field == 0 { usize::MAX } else { TRIES };
             for _ in 0..tries {
                 let pointer = self.pointer(stack, scheme);
-                if cell_with(kind, scheme, pointer).is_sound(RAM_WORDS, stack) {
+                if cell_with(kind, scheme, pointer).is_sound(self.ram_words, stack) {
                     return (size_field, pointer);
                 }
             }
@@ -309,6 +346,7 @@ impl Episode {
 
     /// A pointer that may be sound for the scheme, often at an edge.
     fn pointer(&mut self, stack: &Stack, scheme: Scheme) -> u16 {
+        let ram_words = self.ram_words;
         let random = &mut self.random;
         match scheme {
             Scheme::Single if random.chance(3) => {
@@ -320,16 +358,16 @@ impl Episode {
                     0x0248,
                     0x02E0,
                     0x0400,
-                    0x0FE0,
+                    (ram_words - RECORD_WORDS) as u16,
                     before_stack,
                     behind_stack,
                 ])
             }
-            Scheme::Single => random.below(RAM_WORDS - RECORD_WORDS) as u16,
-            Scheme::Double => 32 * random.below(RAM_WORDS / 32) as u16,
+            Scheme::Single => random.below(ram_words - RECORD_WORDS) as u16,
+            Scheme::Double => 32 * random.below(ram_words / 32) as u16,
             Scheme::Circular(size) => {
                 let size = usize::from(size);
-                let start = size * random.below(RAM_WORDS / size);
+                let start = size * random.below(ram_words / size);
                 let offset = match random.below(4) {
                     0 => 0,
                     1 => size - 1,

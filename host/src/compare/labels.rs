@@ -10,9 +10,7 @@ use std::fmt::Write;
 
 use super::case::GUARD;
 use crate::terminal::boundary::settings_words;
-use crate::terminal::cells::RAM_WORDS;
-use crate::terminal::trace::image_bytes;
-use crate::text::{unpack, write_settings};
+use crate::text::{unpack_ram, write_settings};
 use coverage::Coverage;
 use draw::Asked;
 use sides::LabelSide;
@@ -90,7 +88,7 @@ pub fn compare(
 pub fn shrink(left: &LabelSide, right: &LabelSide, asked: &Asked) -> Asked {
     let mut smallest = asked.clone();
     for size in [1024, 64, 8, 1] {
-        for start in (0..RAM_WORDS).step_by(size) {
+        for start in (0..asked.card_words()).step_by(size) {
             if smallest.ram[start..start + size]
                 .iter()
                 .all(|&word| word == 0)
@@ -144,5 +142,5 @@ pub fn report(left: &LabelSide, right: &LabelSide, asked: &Asked) -> String {
         line(format!("stack, description {place}"), left, right);
     }
     write_settings(&mut text, asked.settings).expect("a string takes all");
-    text + &unpack(&image_bytes(&asked.ram[..RAM_WORDS]))
+    text + &unpack_ram(&asked.ram[..asked.card_words()])
 }

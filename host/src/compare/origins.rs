@@ -9,10 +9,10 @@ use std::fmt::{Debug, Write};
 use std::iter;
 
 use super::case::GUARD;
-use super::episode::Episode;
+use super::episode::{card_of, Episode};
 use crate::random::Random;
 use crate::terminal::boundary::{settings_words, PART_WORDS, REMEMBERED_WORDS};
-use crate::terminal::cells::{check_ram, RAM_WORDS};
+use crate::terminal::cells::check_ram;
 use crate::terminal::records::RECORD_BYTES;
 use crate::terminal::Settings;
 use coverage::Coverage;
@@ -34,6 +34,8 @@ const GUARD_NUMBER: u64 = 0xEEEE_EEEE_EEEE_EEEE;
 #[derive(Clone, Debug)]
 pub struct Asked {
     pub image: Vec<u16>,
+    /// How many words of RAM the card has, and its tables entries.
+    pub card_words: usize,
     pub settings: Settings,
     /// Whole records, some of them damaged, and perhaps a tail.
     pub records: Vec<u8>,
@@ -52,7 +54,8 @@ impl Asked {
     pub fn draw(seed: u64) -> Asked {
         let mut random = Random::new(seed);
         let settings = random.settings();
-        let (mut episode, state) = Episode::with_settings(random.clone(), settings);
+        let card_words = card_of(seed);
+        let (mut episode, state) = Episode::on_card(random.clone(), settings, card_words);
         let records = random.pick(&[1, 8, 64, 200, 200]);
         let mut bytes: Vec<u8> = (0..random.below(records + 1))
             .flat_map(|_| episode.record())
@@ -62,23 +65,28 @@ impl Asked {
             bytes.extend(random.bytes(tail));
         }
         let mut asked = Asked {
-            image: state.ram[..RAM_WORDS].to_vec(),
+            image: state.card().to_vec(),
+            card_words,
             settings,
             records: bytes,
             before: random.pick(&[0, 0, 7, 1 << 40]),
             part_records: 1 + random.below(30),
-            singles: (0..SINGLES).map(|_| single(&mut random)).collect(),
+            singles: (0..SINGLES)
+                .map(|_| single(&mut random, card_words))
+                .collect(),
             last_lent: random.pick(&[0, 1, 1, 1, LAST_ROOM]),
             part_lent: random.pick(&[0, 1, 2, 3, 3, 3, 3, 3, PART_ROOM]),
         };
-        asked.singles.push(random.pick(&[RAM_WORDS as u16, 0xFFFF]));
+        // Beyond the small card, and the other's last word.
+        asked.singles.push(random.pick(&[0x1000, 0xFFFF]));
         asked.spoil(&mut random);
         asked
     }
 
     fn spoil(&mut self, random: &mut Random) {
         if random.chance(SPOILED_ONE_IN) {
-            let words = random.pick(&[0, RAM_WORDS - 1, RAM_WORDS + 1]);
+            let card = self.card_words;
+            let words = random.pick(&[0, card - 1, card + 1]);
             self.image.resize(words, 0);
         }
         if random.chance(SPOILED_ONE_IN) {
@@ -102,14 +110,15 @@ impl Asked {
 }
 
 /// An address anywhere, or where messages write most: stacks and tables.
-fn single(random: &mut Random) -> u16 {
-    let limit = random.pick(&[RAM_WORDS, 0x0200]);
+fn single(random: &mut Random, card_words: usize) -> u16 {
+    let limit = random.pick(&[card_words, 0x0200]);
     random.below(limit) as u16
 }
 
-/// Every address, and some beyond.
-pub fn addresses() -> impl Iterator<Item = u16> {
-    (0..=RAM_WORDS as u16).chain([0xFFFF])
+/// Every address of a card, and some beyond; on the 64K card none is.
+pub fn addresses(card_words: usize) -> impl Iterator<Item = u16> {
+    let last = u16::try_from(card_words).unwrap_or(0xFFFF);
+    (0..=last).chain([0xFFFF])
 }
 
 /// What is said of one address: all that there was room for, lent or not.
@@ -181,8 +190,8 @@ pub fn ask(side: &OriginSide, asked: &Asked) -> Told {
         ram: guarded(&asked.image, GUARD),
         remembered: guarded(&[word; REMEMBERED_WORDS], GUARD),
         records: guarded(&[asked.before], GUARD_NUMBER),
-        numbers: guarded(&[number; RAM_WORDS], GUARD_NUMBER),
-        marks: guarded(&[word; RAM_WORDS], GUARD),
+        numbers: guarded(&vec![number; asked.card_words], GUARD_NUMBER),
+        marks: guarded(&vec![word; asked.card_words], GUARD),
         every: Vec::new(),
         singles,
     };
@@ -190,8 +199,8 @@ pub fn ask(side: &OriginSide, asked: &Asked) -> Told {
     for part in iter::once(&[][..]).chain(parts) {
         let number = (side.fill)(
             &mut told.ram[..asked.image.len()],
-            &mut told.numbers[..RAM_WORDS],
-            &mut told.marks[..RAM_WORDS],
+            &mut told.numbers[..asked.card_words],
+            &mut told.marks[..asked.card_words],
             &settings,
             &mut told.remembered,
             &mut told.records,
@@ -208,15 +217,16 @@ pub fn ask(side: &OriginSide, asked: &Asked) -> Told {
 impl Told {
     /// What the tables say, in place of what they hold.
     fn take_entries(&mut self, side: &OriginSide, asked: &Asked) {
-        let (numbers, marks) = (&self.numbers[..RAM_WORDS], &self.marks[..RAM_WORDS]);
+        let card = asked.card_words;
+        let (numbers, marks) = (&self.numbers[..card], &self.marks[..card]);
         let entry = |address| {
             Said::ask(asked, |last, part| {
                 (side.entry)(numbers, marks, address, last, part)
             })
         };
-        self.every = addresses().map(entry).collect();
-        self.numbers.drain(..RAM_WORDS);
-        self.marks.drain(..RAM_WORDS);
+        self.every = addresses(card).map(entry).collect();
+        self.numbers.drain(..card);
+        self.marks.drain(..card);
     }
 }
 

@@ -13,20 +13,20 @@
 //!   message as a value that keeps the layout or breaks it; words left out are
 //!   0000.
 //!
-//! Left out, the settings are those of the trace program, and 4,096 words of
-//! RAM and 33 of reply are lent. There is one message in all.
+//! Left out, the settings are those of the trace program, and all RAM of the card
+//! and 33 words of reply are lent. There is one message in all.
 
 use std::fmt::{self, Write};
 
 use super::case::{Case, Message, Request, State, GUARD_WORDS, REPLY_ROOM};
-use crate::terminal::cells::RAM_WORDS;
+use crate::terminal::cells::LARGE_RAM_WORDS;
 use crate::terminal::message::REPLY_WORDS;
 use crate::terminal::records::{Record, RECORD_BYTES};
-use crate::terminal::trace::{image_bytes, image_words, IMAGE_BYTES};
+use crate::terminal::trace::image_words;
 use crate::terminal::Settings;
 use crate::text::{
-    mismatch, read_settings, shown, unpack, write_settings, write_words, Mismatch, Packer,
-    TextError, Tokens,
+    mismatch, read_settings, shown, unpack_ram, write_record, write_settings, write_words,
+    Mismatch, Packer, TextError, Tokens,
 };
 
 /// The text of a case.
@@ -49,20 +49,11 @@ fn write_lines(text: &mut String, case: &Case) -> fmt::Result {
         write_words(text, &state.reply)?;
         writeln!(text)?;
     }
-    let image = image_bytes(&state.ram[..RAM_WORDS]);
+    text.push_str(&unpack_ram(state.card()));
     match &request.message {
-        Message::Bytes(bytes) if bytes.len() == RECORD_BYTES => {
-            text.push_str(&unpack(&[&image[..], bytes].concat()));
-            Ok(())
-        }
-        Message::Bytes(bytes) => {
-            text.push_str(&unpack(&image));
-            write_bytes(text, bytes)
-        }
-        Message::Value(record) => {
-            text.push_str(&unpack(&image));
-            write_value(text, record)
-        }
+        Message::Bytes(bytes) if bytes.len() == RECORD_BYTES => write_record(text, bytes),
+        Message::Bytes(bytes) => write_bytes(text, bytes),
+        Message::Value(record) => write_value(text, record),
     }
 }
 
@@ -118,7 +109,9 @@ struct Reading {
 /// What the lines are called that are a message.
 const MESSAGE: &str = "message";
 
-const LINES: &str = "settings, owner, lent, remembered, reply, ram, message, raw, bytes or value";
+const LINES: &str =
+    "settings, owner, lent, remembered, reply, card, ram, message, raw, bytes or value";
+const LENT: &str = "lent line";
 
 impl Reading {
     fn new() -> Reading {
@@ -127,7 +120,7 @@ impl Reading {
                 state: State::default(),
                 request: Request {
                     settings: Settings::TRACE,
-                    ram_words: RAM_WORDS,
+                    ram_words: 0,
                     reply_words: REPLY_WORDS,
                     message: Message::Bytes(Vec::new()),
                     checks_area: true,
@@ -142,7 +135,7 @@ impl Reading {
         let mut tokens = Tokens::new(line);
         let kind = match tokens.next() {
             None => return Ok(()),
-            Some("ram" | "owner") => return self.packer.line(line.as_bytes()),
+            Some("card" | "ram" | "owner") => return self.packer.line(line.as_bytes()),
             Some("message" | "raw") => {
                 self.packer.line(line.as_bytes())?;
                 return self.once(MESSAGE);
@@ -163,7 +156,7 @@ impl Reading {
             }
             "lent" => {
                 (request.ram_words, request.reply_words) = read_lent(tokens)?;
-                Ok("lent line")
+                Ok(LENT)
             }
             "remembered" => {
                 state.remembered.command = tokens.hex_word("a command")?;
@@ -198,11 +191,19 @@ impl Reading {
         if !self.met.contains(&MESSAGE) {
             return mismatch("no message", "a message, raw, bytes or value line");
         }
-        let input = self.packer.finish().bytes;
-        let (image, record) = input.split_at(IMAGE_BYTES);
-        self.case.state.ram[..RAM_WORDS].copy_from_slice(&image_words(image));
-        if !record.is_empty() {
-            self.case.request.message = Message::Bytes(record.to_vec());
+        let read = self.packer.finish();
+        let Case { state, request } = &mut self.case;
+        state.ram = State::of_card(read.ram_words).ram;
+        state.ram[..read.ram_words].copy_from_slice(&image_words(&read.image));
+        if !self.met.contains(&LENT) {
+            request.ram_words = read.ram_words;
+        }
+        if request.ram_words > state.ram.len() {
+            let found = format!("{} words of RAM lent", request.ram_words);
+            return mismatch(found, format!("up to {}", state.ram.len()));
+        }
+        if !read.records.is_empty() {
+            request.message = Message::Bytes(read.records);
         }
         Ok(self.case)
     }
@@ -210,7 +211,7 @@ impl Reading {
 
 fn read_lent(tokens: &mut Tokens) -> Result<(usize, usize), Mismatch> {
     tokens.name("ram")?;
-    let ram = tokens.decimal("words of RAM", RAM_WORDS + GUARD_WORDS)?;
+    let ram = tokens.decimal("words of RAM", LARGE_RAM_WORDS + GUARD_WORDS)?;
     tokens.name("reply")?;
     Ok((ram, tokens.decimal("words of reply", REPLY_ROOM)?))
 }

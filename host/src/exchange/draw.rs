@@ -7,7 +7,7 @@
 use super::condition::{may_exchange, Forgotten};
 use super::list::List;
 use crate::compare::case::REPLY_ROOM;
-use crate::compare::episode::Episode;
+use crate::compare::episode::{card_of, Episode};
 use crate::random::Random;
 use crate::terminal::cells::DESCRIPTOR_WORDS;
 use crate::terminal::message::REPLY_WORDS;
@@ -25,7 +25,8 @@ const MOST_TURNS: usize = 24;
 pub fn random_list(seed: u64, forgotten: Forgotten) -> List {
     let mut random = Random::new(seed);
     let settings = random.settings();
-    let (_, start) = Episode::with_settings(Random::new(random.draw()), settings);
+    let drawn = Random::new(random.draw());
+    let (_, start) = Episode::on_card(drawn, settings, card_of(seed));
     let mut list = List {
         settings,
         start,

@@ -3,7 +3,6 @@
 use super::condition::{is_well_formed, may_exchange, Forgotten, Use};
 use crate::compare::case::State;
 use crate::compare::Side;
-use crate::terminal::cells::RAM_WORDS;
 use crate::terminal::message::REPLY_WORDS;
 use crate::terminal::{Record, Settings};
 
@@ -49,8 +48,7 @@ impl List {
 
     /// The number that the whole-area check answers at the start.
     pub fn area(&self, side: &impl Side) -> u16 {
-        side.check_area(&self.start.ram[..RAM_WORDS], &self.settings)
-            .0
+        side.check_area(self.start.card(), &self.settings).0
     }
 
     /// Why demand 3 does not speak of this list, but for a condition that is

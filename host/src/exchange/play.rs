@@ -7,7 +7,7 @@ use crate::compare::case::{ask, AnswerRoom, Answers, Message, Request, State};
 use crate::compare::coverage::Before;
 use crate::compare::Side;
 use crate::terminal::boundary::ANSWER_WORDS;
-use crate::terminal::cells::{Stack, DESCRIPTOR_WORDS, RAM_WORDS};
+use crate::terminal::cells::{Stack, DESCRIPTOR_WORDS};
 use crate::terminal::{write_record, Answer};
 use crate::text::write_words;
 
@@ -104,7 +104,7 @@ fn message(list: &List, number: usize) -> Message {
 pub fn request(list: &List, message: Message) -> Request {
     Request {
         settings: list.settings,
-        ram_words: RAM_WORDS,
+        ram_words: list.start.card_words(),
         reply_words: list.reply_words,
         message,
         checks_area: false,
@@ -115,7 +115,7 @@ pub fn request(list: &List, message: Message) -> Request {
 /// gone wrong may have no such words.
 fn show(stack: &Stack, state: &State, answers: &Answers) -> Shown {
     let answer = answers.answer;
-    let entry = state.ram[..RAM_WORDS].get(stack.descriptor());
+    let entry = state.card().get(stack.descriptor());
     let mut descriptor = [0; DESCRIPTOR_WORDS];
     if let Some(words) = entry {
         descriptor.copy_from_slice(words);

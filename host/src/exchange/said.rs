@@ -7,7 +7,7 @@ use super::play::{play, Played, Shown};
 use crate::compare::case::{room_of, Answers, Lines, Request};
 use crate::compare::coverage::Before;
 use crate::compare::Side;
-use crate::terminal::cells::{Stack, RAM_WORDS};
+use crate::terminal::cells::Stack;
 use crate::terminal::Remembered;
 
 pub struct Both {
@@ -110,7 +110,8 @@ fn said(list: &List, old: &Played, order: &[usize]) -> Played {
     said.end.ram[stack.block.clone()].copy_from_slice(&list.start.ram[stack.block.clone()]);
     said.end.reply.copy_from_slice(&list.start.reply);
     // Nothing behind RAM is anybody's.
-    said.end.ram[RAM_WORDS..].copy_from_slice(&list.start.ram[RAM_WORDS..]);
+    let card = list.start.card_words();
+    said.end.ram[card..].copy_from_slice(&list.start.ram[card..]);
     for &number in order {
         let shown = &mut said.shown[number];
         // None is refused, and no word is other than its answer says.

@@ -12,7 +12,8 @@ use crate::text;
 pub fn pack(given: &Given, output: &mut dyn Write) -> Result<ExitCode, Problem> {
     let (name, input) = read_whole(file(given))?;
     let read = text::read_text(&input).map_err(|error| problem::text(&name, &error))?;
-    output.write_all(&read.bytes).map_err(problem::output)?;
+    let bytes = read.bytes().map_err(|error| problem::text(&name, &error))?;
+    output.write_all(&bytes).map_err(problem::output)?;
     // Owners change no answer; settings do.
     if read.settings.is_some() {
         let advice = "keep them in a text of their own, for --names";

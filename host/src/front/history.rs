@@ -8,7 +8,7 @@ use super::outcome::Outcome;
 use super::replay::{Moved, Replay};
 use super::say;
 use super::used::CELLS;
-use crate::terminal::cells::{Kind, Scheme, DESCRIPTOR_WORDS, RAM_WORDS};
+use crate::terminal::cells::{Kind, Scheme, DESCRIPTOR_WORDS};
 use crate::terminal::Answer;
 
 /// What is kept of a message beside its number.
@@ -48,8 +48,8 @@ pub struct History {
 impl History {
     pub fn new(replay: Replay) -> History {
         History {
+            facts: vec![Facts::default(); replay.ram.len()],
             replay,
-            facts: vec![Facts::default(); RAM_WORDS],
             turns: [0; CELLS],
         }
     }

@@ -20,7 +20,7 @@ pub fn run(given: &Given, output: &mut dyn Write) -> Result<ExitCode, Problem> {
     }
     // What is read are the others.
     let mut source = Source::open_records(given, Some(!to_long))?;
-    let mut bytes = image_bytes(&source.whole_image()?);
+    let mut bytes = source.image_bytes()?;
     let mut number = 0;
     while let Some(record) = source.next_record()? {
         number += 1;
@@ -49,10 +49,6 @@ pub fn run(given: &Given, output: &mut dyn Write) -> Result<ExitCode, Problem> {
     }
     output.write_all(&bytes).map_err(problem::output)?;
     Ok(ExitCode::SUCCESS)
-}
-
-fn image_bytes(image: &[u16]) -> Vec<u8> {
-    image.iter().flat_map(|word| word.to_be_bytes()).collect()
 }
 
 /// Why a record was refused, as exactly as can be said.

@@ -207,7 +207,7 @@ pub fn bus(record: &Record) -> char {
 /// Why a number refuses, as far as the number says it.
 pub fn refusal(number: u16, settings: &Settings) -> &'static str {
     match number {
-        1 => "the RAM is not 4,096 words",
+        1 => "the RAM is neither 4,096 words nor the 65,536 of the 64K card",
         2 => "the reply buffer is under 33 words",
         3 if settings.broadcast => {
             "the RT address is over 30, or the stack size is none of 256, 512, 1024, 2048"

@@ -5,7 +5,7 @@ use std::ops::Range;
 
 use super::names::addresses;
 use crate::engine;
-use crate::terminal::cells::FIXED_AREAS;
+use crate::terminal::cells::{DESCRIPTOR_WORDS, FIXED_AREAS};
 use crate::terminal::described::{cell_fault, stack_fault};
 use crate::terminal::Settings;
 
@@ -22,7 +22,8 @@ pub fn stack_faults(ram: &[u16], settings: &Settings) -> Vec<String> {
         faults.push(format!("its pointer {pointer:04X} is not a multiple of 4"));
     }
     if has(stack_fault::POINTER_OVER) {
-        faults.push(format!("its pointer {pointer:04X} is over 0FFC"));
+        let highest = ram.len() - DESCRIPTOR_WORDS;
+        faults.push(format!("its pointer {pointer:04X} is over {highest:04X}"));
     } else if has(stack_fault::BLOCK_OVER_END) {
         faults.push(format!("its block {block} leaves the RAM"));
     }

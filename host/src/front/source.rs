@@ -10,9 +10,10 @@ use std::os::unix::io::{AsFd, OwnedFd};
 use super::options::Given;
 use super::problem::{self, Problem};
 use super::progress::Progress;
+use crate::terminal::cells::RAM_WORDS;
 use crate::terminal::long::LONG_BYTES;
 use crate::terminal::records::RECORD_BYTES;
-use crate::terminal::trace::{fill, image_words, IMAGE_BYTES};
+use crate::terminal::trace::{fill, image_bytes, image_words, IMAGE_BYTES};
 use crate::terminal::Settings;
 use crate::text::list::ListText;
 use crate::text::{read_names, read_text, Owners, TraceText};
@@ -67,7 +68,7 @@ impl Source {
         if is_text {
             Source::from_text(name, start, input, long)
         } else {
-            let image = whole_image(&start);
+            let image = whole_image(&start, RAM_WORDS);
             let behind = length.map(|length| behind(length, read));
             let long = long.unwrap_or(false);
             if long {
@@ -110,18 +111,13 @@ impl Source {
 
     /// A text that was read already.
     pub fn held(name: String, read: TraceText) -> Source {
-        let (start, records) = read.bytes.split_at(read.bytes.len().min(IMAGE_BYTES));
-        let length = records.len() as u64;
+        let length = read.records.len() as u64;
         Source {
             name,
             has_names: read.settings.is_some() || !read.owners.is_empty(),
             settings: read.settings.unwrap_or(Settings::TRACE),
-            image: whole_image(start),
-            records: Records::new(
-                Box::new(Cursor::new(records.to_vec())),
-                Some(length),
-                read.long,
-            ),
+            image: whole_image(&read.image, read.ram_words),
+            records: Records::new(Box::new(Cursor::new(read.records)), Some(length), read.long),
             owners: read.owners,
             list: read.list,
         }
@@ -151,6 +147,18 @@ impl Source {
                 "{name}: found {length} bytes, expected an image of 8192 bytes"
             ))
         })
+    }
+
+    /// The image as bytes, which have no place for the 64K card.
+    pub fn image_bytes(&self) -> Result<Vec<u8>, Problem> {
+        let image = self.whole_image()?;
+        if image.len() == RAM_WORDS {
+            return Ok(image_bytes(&image));
+        }
+        let name = &self.name;
+        Err(Problem::Input(format!(
+            "{name}: is of the 64K card, and bytes have no place for that; nothing is written"
+        )))
     }
 
     /// The next whole record.
@@ -314,8 +322,8 @@ fn looks_like_text(start: &[u8]) -> bool {
     start.iter().all(in_text)
 }
 
-fn whole_image(start: &[u8]) -> Result<Vec<u16>, usize> {
-    if start.len() == IMAGE_BYTES {
+fn whole_image(start: &[u8], ram_words: usize) -> Result<Vec<u16>, usize> {
+    if start.len() == 2 * ram_words {
         Ok(image_words(start))
     } else {
         Err(start.len())

@@ -12,7 +12,6 @@ use super::replay::Replay;
 use super::say;
 use super::source::Source;
 use crate::engine::Walk;
-use crate::terminal::cells::RAM_WORDS;
 use crate::terminal::who::Origin;
 use crate::terminal::writes::Part;
 use crate::text::Owners;
@@ -21,6 +20,7 @@ pub fn run(given: &Given, output: &mut dyn Write) -> Result<ExitCode, Problem> {
     let asked = asked(given)?;
     let mut source = Source::open(given)?;
     let image = source.whole_image()?;
+    let asked = asked.unwrap_or_else(|| vec![0..image.len()]);
     let walk = Walk::new(&image, &source.settings).map_err(|number| refused(&source, number))?;
     if let Some(number) = asked.iter().find_map(|range| beyond(&walk, range)) {
         return Err(refused(&source, number));
@@ -36,15 +36,17 @@ pub fn run(given: &Given, output: &mut dyn Write) -> Result<ExitCode, Problem> {
     Ok(ExitCode::SUCCESS)
 }
 
-/// The addresses that were asked for, each a run of one or more.
-fn asked(given: &Given) -> Result<Vec<Range<usize>>, Problem> {
+/// The addresses that were asked for, each a run of one or more; none where all
+/// are.
+fn asked(given: &Given) -> Result<Option<Vec<Range<usize>>>, Problem> {
     let words = &given.files[1..];
     match (given.has("--all"), words.is_empty()) {
-        (true, true) => Ok(vec![0..RAM_WORDS]),
+        (true, true) => Ok(None),
         (false, false) => words
             .iter()
             .map(|word| run_of(&word.to_string_lossy()))
-            .collect(),
+            .collect::<Result<_, _>>()
+            .map(Some),
         (true, false) => Err(Problem::Use("who: --all or addresses, not both".into())),
         (false, true) => Err(Problem::Use(
             "who: which addresses? --all for every word".into(),

@@ -9,6 +9,10 @@ use super::refusal;
 use super::settings::Settings;
 
 pub const RAM_WORDS: usize = 4096;
+/// Of the 64K card.
+pub const LARGE_RAM_WORDS: usize = 65_536;
+/// The lengths that RAM may have.
+pub const CARDS: [usize; 2] = [RAM_WORDS, LARGE_RAM_WORDS];
 
 /// Words that every terminal needs for its own tables.
 pub(crate) const FIXED_AREAS: [Range<usize>; 2] = [0x0100..0x0248, 0x0300..0x0400];
@@ -184,7 +188,7 @@ pub fn meet(a: &Range<usize>, b: &Range<usize>) -> bool {
 
 /// Refuses with 1 a RAM of the wrong length.
 pub fn check_ram(ram: &[u16]) -> Result<(), u16> {
-    if ram.len() == RAM_WORDS {
+    if CARDS.contains(&ram.len()) {
         Ok(())
     } else {
         Err(refusal::RAM_LENGTH)

@@ -89,7 +89,7 @@ pub fn describe_stack(ram: &[u16], settings: &Settings) -> Result<StackDescripti
     let Stack { pointer, block } = Stack::read(ram, settings);
     let faults = bits(&[
         usize::from(pointer) % DESCRIPTOR_WORDS != 0,
-        pointer > 0x0FFC,
+        usize::from(pointer) + DESCRIPTOR_WORDS > ram.len(),
         block.end > ram.len(),
         meet(&block, &FIXED_AREAS[0]),
         meet(&block, &FIXED_AREAS[1]),

@@ -3,13 +3,15 @@
 use std::ops::Range;
 
 use super::cells::{
-    lookup_place, stack_pointer_place, Cell, Kind, Scheme, Stack, DESCRIPTOR_WORDS, RAM_WORDS,
+    lookup_place, stack_pointer_place, Cell, Kind, Scheme, Stack, DESCRIPTOR_WORDS,
+    LARGE_RAM_WORDS, RAM_WORDS,
 };
 use super::faults::Faults;
 use super::long::read_old;
 use super::planted::{
-    with_planted, Planted, FAULTY_STORES_WHEN_DISABLED, NONE, POINTER_AFTER_IN_DESCRIPTOR,
-    ROLLOVER_WHEN_KEPT_BACK, TRANSFER_BITS_EXCHANGED, TRANSMIT_COMMAND_IN_DESCRIPTOR,
+    with_planted, Planted, FAULTY_STORES_WHEN_DISABLED, LARGE_CIRCLE_REFUSED, LONGER_RAM_TAKEN,
+    NONE, POINTER_AFTER_IN_DESCRIPTOR, ROLLOVER_WHEN_KEPT_BACK, SMALL_END_ALWAYS,
+    STACK_BELOW_SMALL_END, TRANSFER_BITS_EXCHANGED, TRANSMIT_COMMAND_IN_DESCRIPTOR,
     WRAP_BY_WORD_COUNT, ZERO_COUNT_IS_NONE,
 };
 use super::records::{read_record_with, Record, FLAG_BUS_B, RECORD_WORDS};
@@ -100,7 +102,7 @@ pub(super) fn carry_out_with<const PLANTED: u8>(
     })
 }
 
-/// Tests 1 to 5, about what the caller lends and the record, then the others.
+/// Test 1, and then a way for each card: in it the RAM's length is known.
 #[inline(always)]
 fn accept<const PLANTED: u8>(
     ram: &mut [u16],
@@ -108,7 +110,27 @@ fn accept<const PLANTED: u8>(
     settings: &Settings,
     message: MessageRef,
 ) -> Result<(Answer, Remembered), u16> {
-    let ram = ram.try_into().map_err(|_| refusal::RAM_LENGTH)?;
+    let words = match ram.len() {
+        longer if PLANTED == LONGER_RAM_TAKEN && longer > RAM_WORDS => RAM_WORDS,
+        words => words,
+    };
+    if let Ok(small) = <&mut [u16; RAM_WORDS]>::try_from(&mut ram[..words]) {
+        return accept_on::<PLANTED, RAM_WORDS>(small, reply, settings, message);
+    }
+    match ram.try_into() {
+        Ok(large) => accept_on::<PLANTED, LARGE_RAM_WORDS>(large, reply, settings, message),
+        Err(_) => Err(refusal::RAM_LENGTH),
+    }
+}
+
+/// Tests 2 to 5, about what the caller lends and the record, then the others.
+#[inline(always)]
+fn accept_on<const PLANTED: u8, const WORDS: usize>(
+    ram: &mut [u16; WORDS],
+    reply: &mut [u16],
+    settings: &Settings,
+    message: MessageRef,
+) -> Result<(Answer, Remembered), u16> {
     let reply = reply.get_mut(..REPLY_WORDS).ok_or(refusal::REPLY_LENGTH)?;
     settings.check()?;
     let read;
@@ -126,19 +148,19 @@ fn accept<const PLANTED: u8>(
             &read
         }
     };
-    perform::<PLANTED>(ram, reply, settings, record)
+    perform::<PLANTED, WORDS>(ram, reply, settings, record)
 }
 
 /// Tests 6 to 9, and then the message itself.
 #[inline(always)]
-fn perform<const PLANTED: u8>(
-    ram: &mut [u16; RAM_WORDS],
+fn perform<const PLANTED: u8, const WORDS: usize>(
+    ram: &mut [u16; WORDS],
     reply: &mut [u16],
     settings: &Settings,
     record: &Record,
 ) -> Result<(Answer, Remembered), u16> {
     let command = Command(record.command);
-    let (stack, cell) = locate(ram, settings, command)?;
+    let (stack, cell) = locate::<PLANTED>(ram, settings, command)?;
     let judged = Judged::new::<PLANTED>(ram, settings, record);
     let status = status_word(&judged, settings);
     let answered = judged.valid && !judged.broadcast;
@@ -173,22 +195,37 @@ fn perform<const PLANTED: u8>(
 
 /// Tests 6 to 9: the stack and the cell that a message would use.
 #[inline(always)]
-pub(super) fn locate(
+pub(super) fn locate<const PLANTED: u8>(
     ram: &[u16],
     settings: &Settings,
     command: Command,
 ) -> Result<(Stack, Cell), u16> {
     check_command(command, settings)?;
     let stack = Stack::read(ram, settings);
-    if !stack.is_sound(ram.len()) {
+    let stack_end = if PLANTED == STACK_BELOW_SMALL_END {
+        RAM_WORDS
+    } else {
+        ram.len()
+    };
+    if !stack.is_sound(stack_end) {
         return Err(refusal::STACK);
     }
     let kind = cell_kind(command, settings);
     let cell = Cell::read(ram, settings, kind, command.subaddress());
-    if !cell.is_sound(ram.len(), &stack) {
+    if !cell.is_sound(cell_end::<PLANTED>(ram.len(), &cell), &stack) {
         return Err(refusal::CELL);
     }
     Ok((stack, cell))
+}
+
+/// The end that a cell's window must keep to: RAM's.
+fn cell_end<const PLANTED: u8>(ram_words: usize, cell: &Cell) -> usize {
+    let is_large = matches!(cell.scheme, Scheme::Circular(4096 | 8192));
+    match PLANTED {
+        SMALL_END_ALWAYS => RAM_WORDS,
+        LARGE_CIRCLE_REFUSED if is_large => 0,
+        _ => ram_words,
+    }
 }
 
 /// Tests 6 and 7: whether the command is one for this terminal's cells.
@@ -289,12 +326,13 @@ fn move_words<const PLANTED: u8>(
     if judged.command.is_transmit() {
         let count = judged.words_to_send();
         let words = &mut reply[1..=usize::from(count)];
-        send(ram, words, runs::<PLANTED>(cell, count));
+        send(ram, words, runs::<PLANTED>(cell, ram.len(), count));
         count
     } else {
         let count = judged.words_to_store::<PLANTED>(settings, record);
         let words = &record.words[..usize::from(count)];
-        store(ram, words, runs::<PLANTED>(cell, count));
+        let runs = runs::<PLANTED>(cell, ram.len(), count);
+        store(ram, words, runs);
         count
     }
 }
@@ -303,9 +341,13 @@ fn move_words<const PLANTED: u8>(
 /// window's end, then those that wrapped to its start.
 ///
 /// A message has 32 words at most, so only a circular window is ever passed.
-pub(super) fn runs<const PLANTED: u8>(cell: &Cell, count: u16) -> [Range<usize>; 2] {
+pub(super) fn runs<const PLANTED: u8>(
+    cell: &Cell,
+    ram_words: usize,
+    count: u16,
+) -> [Range<usize>; 2] {
     let window = if PLANTED == WRAP_BY_WORD_COUNT {
-        0..RAM_WORDS
+        0..ram_words
     } else {
         cell.window()
     };

@@ -1,5 +1,5 @@
 //! Errors to be planted on purpose: those often seen in student builds, and
-//! those that transfers invite.
+//! those that transfers and the 64K card invite.
 //!
 //! A comparison of two terminals is worth something only if it can fail; a
 //! terminal with one of these errors must be told from a good one. The message
@@ -33,10 +33,18 @@ pub enum Planted {
     TransferOnTransmit,
     /// A count is let through with flags 16 to 64.
     CountWithTransferFault,
+    /// Any RAM of more than 4,096 words is taken, and its front used.
+    LongerRamTaken,
+    /// A cell's window must end by 4,096 words on either card.
+    SmallEndAlways,
+    /// A circle of 4,096 or 8,192 words is unsound on either card.
+    LargeCircleRefused,
+    /// The stack must end by 4,096 words on either card.
+    StackBelowSmallEnd,
 }
 
 impl Planted {
-    pub const ERRORS: [Planted; 11] = [
+    pub const ERRORS: [Planted; 15] = [
         Planted::PointerAfterInDescriptor,
         Planted::RolloverWhenKeptBack,
         Planted::WrapByWordCount,
@@ -48,6 +56,10 @@ impl Planted {
         Planted::UnmarkedTransmitCommand,
         Planted::TransferOnTransmit,
         Planted::CountWithTransferFault,
+        Planted::LongerRamTaken,
+        Planted::SmallEndAlways,
+        Planted::LargeCircleRefused,
+        Planted::StackBelowSmallEnd,
     ];
 
     /// The name that a person types.
@@ -65,6 +77,10 @@ impl Planted {
             Planted::UnmarkedTransmitCommand => "unmarked-transmit-command",
             Planted::TransferOnTransmit => "transfer-on-transmit",
             Planted::CountWithTransferFault => "count-with-transfer-fault",
+            Planted::LongerRamTaken => "longer-ram-taken",
+            Planted::SmallEndAlways => "small-end-always",
+            Planted::LargeCircleRefused => "large-circle-refused",
+            Planted::StackBelowSmallEnd => "stack-below-small-end",
         }
     }
 
@@ -91,6 +107,10 @@ pub(super) const TRANSMIT_COMMAND_IN_DESCRIPTOR: u8 = Planted::TransmitCommandIn
 pub(super) const UNMARKED_TRANSMIT_COMMAND: u8 = Planted::UnmarkedTransmitCommand as u8;
 pub(super) const TRANSFER_ON_TRANSMIT: u8 = Planted::TransferOnTransmit as u8;
 pub(super) const COUNT_WITH_TRANSFER_FAULT: u8 = Planted::CountWithTransferFault as u8;
+pub(super) const LONGER_RAM_TAKEN: u8 = Planted::LongerRamTaken as u8;
+pub(super) const SMALL_END_ALWAYS: u8 = Planted::SmallEndAlways as u8;
+pub(super) const LARGE_CIRCLE_REFUSED: u8 = Planted::LargeCircleRefused as u8;
+pub(super) const STACK_BELOW_SMALL_END: u8 = Planted::StackBelowSmallEnd as u8;
 
 /// Calls a function that takes the error as a constant parameter.
 macro_rules! with_planted {
@@ -109,6 +129,10 @@ macro_rules! with_planted {
             Planted::UnmarkedTransmitCommand => $function::<UNMARKED_TRANSMIT_COMMAND> $arguments,
             Planted::TransferOnTransmit => $function::<TRANSFER_ON_TRANSMIT> $arguments,
             Planted::CountWithTransferFault => $function::<COUNT_WITH_TRANSFER_FAULT> $arguments,
+            Planted::LongerRamTaken => $function::<LONGER_RAM_TAKEN> $arguments,
+            Planted::SmallEndAlways => $function::<SMALL_END_ALWAYS> $arguments,
+            Planted::LargeCircleRefused => $function::<LARGE_CIRCLE_REFUSED> $arguments,
+            Planted::StackBelowSmallEnd => $function::<STACK_BELOW_SMALL_END> $arguments,
         }
     }};
 }

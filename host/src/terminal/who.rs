@@ -1,7 +1,7 @@
 //! Who put this word here: for an address of RAM, the last record of a trace
 //! that wrote it. Found by walking the list of writes of every message.
 
-use super::cells::{check_ram, RAM_WORDS};
+use super::cells::check_ram;
 use super::read_record;
 use super::refusal;
 use super::settings::Settings;
@@ -36,7 +36,7 @@ impl Walk {
             settings: *settings,
             ram: image.to_vec(),
             records: 0,
-            origins: vec![None; RAM_WORDS],
+            origins: vec![None; image.len()],
         })
     }
 

@@ -34,7 +34,7 @@ const MOST_WRITES: usize = RECORD_WORDS + 1 + DESCRIPTOR_WORDS + 1;
 /// The writes of a message that keeps its layout, and the number of its cell;
 /// 6 to 9 refuse, as they do when it is carried out.
 pub fn writes(ram: &[u16], settings: &Settings, record: &Record) -> Result<(u16, Vec<Write>), u16> {
-    let (stack, cell) = locate(ram, settings, Command(record.command))?;
+    let (stack, cell) = locate::<NONE>(ram, settings, Command(record.command))?;
     let judged = Judged::new::<NONE>(ram, settings, record);
     let stores = cell.kind != Kind::Transmit;
     let moved = if stores {
@@ -46,7 +46,7 @@ pub fn writes(ram: &[u16], settings: &Settings, record: &Record) -> Result<(u16,
 
     let mut list = Vec::with_capacity(MOST_WRITES);
     if stores {
-        list.extend(stored(&cell, moved, record));
+        list.extend(stored(&cell, ram.len(), moved, record));
     }
     // It moves by fewer words than any circle has, so a moved one differs.
     if pointer != cell.pointer {
@@ -67,8 +67,13 @@ fn write(address: usize, word: u16, part: Part) -> Write {
     }
 }
 
-fn stored<'a>(cell: &Cell, count: u16, record: &'a Record) -> impl Iterator<Item = Write> + 'a {
-    let [first, second] = runs::<NONE>(cell, count);
+fn stored<'a>(
+    cell: &Cell,
+    ram_words: usize,
+    count: u16,
+    record: &'a Record,
+) -> impl Iterator<Item = Write> + 'a {
+    let [first, second] = runs::<NONE>(cell, ram_words, count);
     let words = first.chain(second).zip(&record.words).zip(1..);
     words.map(|((address, &word), place)| write(address, word, Part::Data(place)))
 }

@@ -6,7 +6,7 @@ use super::message::{read_long_message, read_message};
 use super::owners::Owners;
 use super::settings::read_settings;
 use super::tokens::{mismatch, shown, Mismatch, TextError, Tokens};
-use crate::terminal::cells::RAM_WORDS;
+use crate::terminal::cells::{LARGE_RAM_WORDS, RAM_WORDS};
 use crate::terminal::long::LONG_BYTES;
 use crate::terminal::records::RECORD_BYTES;
 use crate::terminal::trace::IMAGE_BYTES;
@@ -14,8 +14,12 @@ use crate::terminal::Settings;
 
 /// What a text says.
 pub struct TraceText {
-    /// The image and the records, as the trace program reads them.
-    pub bytes: Vec<u8>,
+    /// The image, whole or cut short.
+    pub image: Vec<u8>,
+    /// How many words of RAM its card has.
+    pub ram_words: usize,
+    /// The records, and perhaps a short tail.
+    pub records: Vec<u8>,
     /// None where the text leaves them to the trace program.
     pub settings: Option<Settings>,
     pub owners: Owners,
@@ -23,11 +27,29 @@ pub struct TraceText {
     pub long: bool,
     /// What it says of a controller's run.
     pub list: ListText,
+    /// The line that names the 64K card.
+    card_line: Option<usize>,
+}
+
+impl TraceText {
+    /// The image and the records, as the trace program reads them.
+    pub fn bytes(&self) -> Result<Vec<u8>, TextError> {
+        match self.card_line {
+            None => Ok([&self.image[..], &self.records].concat()),
+            Some(line) => Err(TextError {
+                line,
+                found: "card 64K".into(),
+                expected: "a text of the card of 4,096 words: bytes have no place for the card, \
+                           and an image is always 8192"
+                    .into(),
+            }),
+        }
+    }
 }
 
 /// The bytes that a text stands for.
 pub fn pack(text: &[u8]) -> Result<Vec<u8>, TextError> {
-    Ok(read_text(text)?.bytes)
+    read_text(text)?.bytes()
 }
 
 /// All that a text says.
@@ -41,6 +63,10 @@ pub fn read_names(text: &[u8]) -> Result<TraceText, TextError> {
         let text = utf8(line)?;
         match Tokens::new(text).next() {
             None | Some("settings" | "owner") => packer.line(line),
+            Some("card") => mismatch(
+                "card beside bytes",
+                "settings or owner: bytes are always of the card of 4,096 words",
+            ),
             other => mismatch(shown(other), "settings or owner"),
         }
     })
@@ -81,6 +107,8 @@ enum Part {
 /// Takes a text in, line by line.
 pub struct Packer {
     image: Vec<u8>,
+    /// The line that names the 64K card.
+    card_line: Option<usize>,
     records: Vec<u8>,
     part: Part,
     settings: Option<Settings>,
@@ -96,6 +124,7 @@ impl Packer {
     pub fn new() -> Packer {
         Packer {
             image: vec![0; IMAGE_BYTES],
+            card_line: None,
             records: Vec::new(),
             part: Part::Start,
             settings: None,
@@ -114,10 +143,12 @@ impl Packer {
         })
     }
 
-    pub fn finish(mut self) -> TraceText {
-        self.image.append(&mut self.records);
+    pub fn finish(self) -> TraceText {
         TraceText {
-            bytes: self.image,
+            ram_words: self.ram_words(),
+            image: self.image,
+            records: self.records,
+            card_line: self.card_line,
             settings: self.settings,
             owners: self.owners,
             long: self.long.unwrap_or(false),
@@ -134,13 +165,14 @@ impl Packer {
             Some("settings") => self.settings_line(&mut tokens)?,
             Some("owner") => self.owner_line(&mut tokens)?,
             Some("records") => self.records_line(&mut tokens)?,
+            Some("card") => self.card_line(&mut tokens)?,
             Some("image") => self.image_line(&mut tokens)?,
             Some("ram") => self.ram_line(&mut tokens)?,
             Some("message") => self.message_line(&mut tokens)?,
             Some("raw") => self.raw_line(&mut tokens)?,
             other => {
                 let expected =
-                    "settings, owner, records, image, ram, message, raw or a line of a list";
+                    "settings, owner, records, card, image, ram, message, raw or a line of a list";
                 return mismatch(shown(other), expected);
             }
         }
@@ -193,9 +225,33 @@ impl Packer {
         Ok(())
     }
 
+    /// `card 64K`: RAM has 65,536 words.
+    fn card_line(&mut self, tokens: &mut Tokens) -> Result<(), Mismatch> {
+        if self.card_line.is_some() {
+            return mismatch("a second card line", "one");
+        }
+        if self.part != Part::Start {
+            let expected = "card before the first line of RAM";
+            return mismatch("card after image, ram, a list or a record", expected);
+        }
+        match tokens.next() {
+            Some("64K") => self.card_line = Some(self.lines),
+            other => return mismatch(shown(other), "64K"),
+        }
+        self.image.resize(2 * LARGE_RAM_WORDS, 0);
+        Ok(())
+    }
+
+    fn ram_words(&self) -> usize {
+        match self.card_line {
+            Some(_) => LARGE_RAM_WORDS,
+            None => RAM_WORDS,
+        }
+    }
+
     /// `image LENGTH`: the input stops inside the image.
     fn image_line(&mut self, tokens: &mut Tokens) -> Result<(), Mismatch> {
-        if self.part != Part::Start {
+        if self.part != Part::Start || self.card_line.is_some() {
             return mismatch("image after another line", "image as the first line");
         }
         let length = tokens.decimal("the image's length in bytes", IMAGE_BYTES - 1)?;
@@ -232,8 +288,9 @@ impl Packer {
     }
 
     fn set_word(&mut self, address: usize, word: u16) -> Result<(), Mismatch> {
-        if address >= RAM_WORDS {
-            return mismatch(format!("address {address:04X}"), "an address up to 0FFF");
+        if address >= self.ram_words() {
+            let expected = format!("an address up to {:04X}", self.ram_words() - 1);
+            return mismatch(format!("address {address:04X}"), expected);
         }
         let length = self.image.len();
         match self.image.get_mut(2 * address..) {
@@ -274,7 +331,7 @@ impl Packer {
     }
 
     fn enter_records(&mut self, name: &str) -> Result<(), Mismatch> {
-        if self.image.len() < IMAGE_BYTES {
+        if self.image.len() < 2 * self.ram_words() {
             return mismatch(name, "no records after a short image");
         }
         if self.part == Part::Tail {

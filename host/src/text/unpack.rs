@@ -3,6 +3,7 @@
 use std::fmt::{self, Write};
 
 use super::message::flag_names;
+use crate::terminal::cells::LARGE_RAM_WORDS;
 use crate::terminal::long::{read_long, LongRecord, LONG_BYTES};
 use crate::terminal::read_record;
 use crate::terminal::records::{Record, FLAG_BUS_B, RECORD_BYTES, TOO_MANY};
@@ -26,6 +27,19 @@ pub fn unpack_long(binary: &[u8]) -> String {
     text
 }
 
+/// The text of a RAM, of either card.
+pub fn unpack_ram(ram: &[u16]) -> String {
+    let mut text = String::new();
+    if ram.len() == LARGE_RAM_WORDS {
+        text.push_str("card 64K\n");
+    }
+    for (row, words) in ram.chunks(WORDS_IN_LINE).enumerate() {
+        let written = write_row(&mut text, row * WORDS_IN_LINE, words);
+        written.expect("writing to a string never fails");
+    }
+    text
+}
+
 fn write_trace(text: &mut String, binary: &[u8], record_bytes: usize) -> fmt::Result {
     let (image, records) = binary.split_at(binary.len().min(IMAGE_BYTES));
     if image.len() < IMAGE_BYTES {
@@ -36,16 +50,22 @@ fn write_trace(text: &mut String, binary: &[u8], record_bytes: usize) -> fmt::Re
         writeln!(text, "records {LONG_BYTES}")?;
     }
     for bytes in records.chunks(record_bytes) {
-        let written = match (record_bytes, read_record(bytes), read_long(bytes)) {
-            (LONG_BYTES, _, Ok(long)) => write_message(text, &long.old, &long_parts(&long)),
-            (RECORD_BYTES, Ok(record), _) => {
-                write_message(text, &record, &format!("tag {:04X}", record.tag))
-            }
-            _ => write_raw(text, bytes),
+        let written = match (record_bytes, read_long(bytes)) {
+            (LONG_BYTES, Ok(long)) => write_message(text, &long.old, &long_parts(&long)),
+            (LONG_BYTES, _) => write_raw(text, bytes),
+            _ => write_record(text, bytes),
         };
         written?;
     }
     Ok(())
+}
+
+/// A record of 80 bytes, or what stands in its place.
+pub fn write_record(text: &mut String, bytes: &[u8]) -> fmt::Result {
+    match read_record(bytes) {
+        Ok(record) => write_message(text, &record, &format!("tag {:04X}", record.tag)),
+        Err(_) => write_raw(text, bytes),
+    }
 }
 
 /// One line for every eight words that are not all zero.

@@ -2,6 +2,8 @@
 //! `engine`.
 
 mod broadcast;
+#[path = "../terminal/card.rs"]
+mod card;
 mod files;
 mod guards;
 mod labels;
@@ -217,4 +219,9 @@ fn slices_of_any_length_for_the_rest() {
         );
         assert_eq!(left, right);
     }
+}
+
+#[test]
+fn edges_of_both_cards() {
+    card::run_all(&Proved);
 }

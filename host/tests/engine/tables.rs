@@ -13,7 +13,18 @@ use plain_terminal::terminal::writes::Part;
 use plain_terminal::terminal::{write_record, Settings};
 
 const RAM_WORDS: usize = 4096;
-const LENGTHS: [usize; 6] = [0, 1, RAM_WORDS - 1, RAM_WORDS, RAM_WORDS + 1, 0x10000];
+const LARGE_RAM_WORDS: usize = 65_536;
+const LENGTHS: [usize; 9] = [
+    0,
+    1,
+    RAM_WORDS - 1,
+    RAM_WORDS,
+    RAM_WORDS + 1,
+    12_288,
+    LARGE_RAM_WORDS - 1,
+    LARGE_RAM_WORDS,
+    LARGE_RAM_WORDS + 1,
+];
 const ADDRESSES: [u16; 6] = [0, 1, 0x0100, 0x0FFF, 0x1000, 0xFFFF];
 
 /// What a caller lends for a part of a trace, to be written.

@@ -1,5 +1,5 @@
 /* The proved terminal called from C: the worked example of the scope document through every function of the header, each
- * number by its name, and lengths that are wrong, short or 0. */
+ * number by its name, lengths that are wrong, short or 0, and both cards. */
 #include <assert.h>
 #include <string.h>
 
@@ -542,6 +542,85 @@ static void a_controller(void)
     assert(solkverva_control_on(ram, 0, 9, bytes, sizeof bytes, machine, MACHINE, ran, RAN) == SOLKVERVA_RAM_LENGTH);
 }
 
+static uint16_t large[SOLKVERVA_LARGE_RAM_WORDS + 1];
+static uint64_t large_numbers[SOLKVERVA_LARGE_RAM_WORDS];
+static uint16_t large_marks[SOLKVERVA_LARGE_RAM_WORDS];
+
+/* The example's message for a circle of 8,192 words, at its end. */
+static void start_large(void)
+{
+    start();
+    memset(large, 0, sizeof large);
+    large[0x0143] = 0x3FFE;
+    large[0x01A3] = 0x01E0;
+    large[SOLKVERVA_LARGE_RAM_WORDS] = UNTOUCHED;
+}
+
+static uint16_t from_large(size_t ram_words)
+{
+    return solkverva_message(large, ram_words, reply, SOLKVERVA_REPLY_WORDS, settings, SOLKVERVA_SETTINGS_WORDS,
+                             remembered, REMEMBERED, bytes, sizeof bytes, answer, ANSWER);
+}
+
+/* The same words are sound on the 64K card and unsound on the other; no other length is taken. */
+static void the_64k_card(void)
+{
+    const size_t none[] = {0, 4095, 4097, 12288, 65535, 65537};
+    uint16_t description[SOLKVERVA_STACK_DESCRIPTION_WORDS];
+    uint16_t listing[1];
+    size_t i;
+
+    start_large();
+    for (i = 0; i < sizeof none / sizeof none[0]; i++) {
+        assert(from_large(none[i]) == SOLKVERVA_RAM_LENGTH);
+        assert(solkverva_check_area(large, none[i], settings, SOLKVERVA_SETTINGS_WORDS) ==
+               (uint32_t)SOLKVERVA_RAM_LENGTH << 16);
+    }
+    assert(from_large(SOLKVERVA_RAM_WORDS) == SOLKVERVA_UNSOUND_CELL);
+    assert(from_large(SOLKVERVA_LARGE_RAM_WORDS) == SOLKVERVA_DONE);
+    assert(large[0x3FFF] == 0x2222 && large[0x2000] == 0x3333 && large[0x2001] == 0x4444 && large[0x0143] == 0x2002);
+    assert(large[SOLKVERVA_LARGE_RAM_WORDS] == UNTOUCHED);
+
+    /* Two cells of the last block, and the stack's last entry before it. */
+    large[0x0141] = large[0x0142] = 0xFFE0;
+    assert(solkverva_label_cell(large, SOLKVERVA_LARGE_RAM_WORDS, settings, SOLKVERVA_SETTINGS_WORDS, 1, listing, 1) ==
+               SOLKVERVA_DONE &&
+           listing[0] == 1);
+    large[0x0100] = 0xFFFC;
+    assert(solkverva_describe_stack(large, SOLKVERVA_LARGE_RAM_WORDS, settings, SOLKVERVA_SETTINGS_WORDS, description,
+                                    SOLKVERVA_STACK_DESCRIPTION_WORDS) == SOLKVERVA_DONE);
+    assert(description[1] == 0xFF00 && description[3] == 0);
+    assert(solkverva_describe_stack(large, SOLKVERVA_RAM_WORDS, settings, SOLKVERVA_SETTINGS_WORDS, description,
+                                    SOLKVERVA_STACK_DESCRIPTION_WORDS) == SOLKVERVA_DONE);
+    assert(description[3] == SOLKVERVA_STACK_POINTER_OVER + SOLKVERVA_STACK_BLOCK_OVER_END);
+}
+
+static uint16_t entry_of_large(size_t length, uint16_t address)
+{
+    return solkverva_who_entry(large_numbers, length, large_marks, length, address, last, 2, part,
+                               SOLKVERVA_PART_WORDS + 1);
+}
+
+/* Tables of 65,536 entries, filled twice. */
+static void who_on_the_64k_card(void)
+{
+    uint64_t filled = 0;
+    int round;
+
+    start_large();
+    for (round = 1; round <= 2; round++) {
+        assert(solkverva_who_fill(large, SOLKVERVA_LARGE_RAM_WORDS, large_numbers, SOLKVERVA_LARGE_RAM_WORDS, large_marks,
+                                  SOLKVERVA_LARGE_RAM_WORDS, settings, SOLKVERVA_SETTINGS_WORDS, remembered, REMEMBERED,
+                                  &filled, 1, bytes, sizeof bytes) == SOLKVERVA_DONE);
+    }
+    assert(filled == 2);
+    assert(entry_of_large(SOLKVERVA_LARGE_RAM_WORDS, 0x2001) == SOLKVERVA_DONE && last[0] == 1 && part[2] == 4);
+    assert(entry_of_large(SOLKVERVA_LARGE_RAM_WORDS, 0x2002) == SOLKVERVA_DONE && last[0] == 2 && part[2] == 1);
+    assert(entry_of_large(SOLKVERVA_LARGE_RAM_WORDS, 0xFFFF) == SOLKVERVA_DONE && last[0] == 0);
+    assert(entry_of_large(SOLKVERVA_LARGE_RAM_WORDS - 1, 0x2001) == SOLKVERVA_RAM_LENGTH);
+    assert(entry_of_large(SOLKVERVA_RAM_WORDS, 0x2001) == SOLKVERVA_ADDRESS_BEYOND);
+}
+
 /* The number tells of a change in RAM where nothing else is lent. */
 static void nothing_lent(void)
 {
@@ -587,6 +666,8 @@ int main(void)
     who_put_a_word_there();
     long_records();
     a_controller();
+    the_64k_card();
+    who_on_the_64k_card();
     nothing_lent();
     return 0;
 }

@@ -70,7 +70,7 @@ fn assert_errors(cases: &[(&str, &str)]) {
 #[test]
 fn errors_in_a_case_name_the_line() {
     const LOUD: &str = "settings address 5 area A stack 256 loud";
-    const LENT: &str = "line 1: found \"9999\", expected words of RAM, decimal, 0 to 4160";
+    const LENT: &str = "line 1: found \"99999\", expected words of RAM, decimal, 0 to 65600";
     const TAG: &str = "line 1: found the end of the line, expected a time tag of";
     const WORDS: &str = "line 3: found words without a word, expected";
     assert_errors(&[
@@ -87,7 +87,11 @@ fn errors_in_a_case_name_the_line() {
             "line 1: found \"C\", expected A or B",
         ),
         (LOUD, "line 1: found \"loud\", expected one of"),
-        ("lent ram 9999 reply 33", LENT),
+        ("lent ram 99999 reply 33", LENT),
+        (
+            "lent ram 4161 reply 33\nmessage 2861 words 1",
+            "line 2: found 4161 words of RAM lent, expected up to 4160",
+        ),
         ("value 2861 from 0 tag", TAG),
         ("value +1F", "line 1: found \"+1F\", expected a command of"),
         ("bytes 28 x", "line 1: found \"x\", expected pairs of"),

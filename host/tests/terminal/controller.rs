@@ -8,7 +8,7 @@ use plain_terminal::compare::control::sides::{plain, ERRORS};
 use plain_terminal::compare::control::{compare, legal_words, one_outcome};
 use plain_terminal::controller::opcode::{OpCode, Operation};
 use plain_terminal::controller::{go_on, start, End, Machine, Ran};
-use plain_terminal::terminal::trace::{image_words, IMAGE_BYTES};
+use plain_terminal::terminal::trace::image_words;
 use plain_terminal::text::list::instruction;
 use plain_terminal::text::read_text;
 
@@ -23,11 +23,10 @@ fn sample(name: &str, budget: Option<u64>) -> Ran {
 
 fn run(text: &str, budget: Option<u64>) -> Result<Ran, u16> {
     let read = read_text(text.as_bytes()).unwrap();
-    let (image, trace) = read.bytes.split_at(IMAGE_BYTES);
     let list = read.list;
     start(
-        &image_words(image),
-        trace,
+        &image_words(&read.image),
+        &read.records,
         list.start.unwrap(),
         list.flags.unwrap_or(0),
         budget.or(list.budget).unwrap_or(1000),
@@ -135,7 +134,7 @@ fn what_is_printed_as_an_instruction_assembles_to_the_same_words() {
         let op = OpCode::read(word).unwrap();
         let text = instruction(word, 0x0102).unwrap();
         let read = read_text(format!("list 0400\n{text}\n").as_bytes()).unwrap();
-        let ram = image_words(&read.bytes[..IMAGE_BYTES]);
+        let ram = image_words(&read.image);
         // FLG is printed without its condition, which nobody looks at.
         let always = OpCode {
             condition: 0x0F,

@@ -2,6 +2,7 @@
 
 mod area;
 mod broadcast;
+mod card;
 mod compare;
 mod controller;
 mod exchange;

@@ -160,6 +160,37 @@ fn layouts_that_are_let_through() {
     }
 }
 
+/// The number of a message to a terminal on the 64K card, or on none.
+fn on_card(planted: Planted, ram_words: usize, image: &[(usize, u16)]) -> u16 {
+    let mut terminal = Terminal::with_circle(0x0400);
+    terminal.ram.resize(ram_words, 0);
+    for &(place, word) in image {
+        terminal.ram[place] = word;
+    }
+    run(planted, &mut terminal, &good(0x2864)).number
+}
+
+#[test]
+fn errors_of_the_64k_card() {
+    let large = 65_536;
+    let plain: &[(usize, u16)] = &[];
+    let beyond: &[(usize, u16)] = &[(0x0143, 0x1400)];
+    let circle: &[(usize, u16)] = &[(0x0143, 0x1400), (0x01A3, 0x00C0)];
+    let stack: &[(usize, u16)] = &[(0x0100, 0xFFFC)];
+    for (planted, ram_words, image, good, wrong) in [
+        (Planted::LongerRamTaken, 12_288, plain, 1, 0),
+        (Planted::SmallEndAlways, large, beyond, 0, 9),
+        (Planted::LargeCircleRefused, large, circle, 0, 9),
+        (Planted::StackBelowSmallEnd, large, stack, 0, 8),
+    ] {
+        assert_eq!(on_card(Planted::None, ram_words, image), good);
+        assert_eq!(on_card(planted, ram_words, image), wrong);
+        assert_eq!(on_card(planted, 4096, plain), 0);
+    }
+    assert_eq!(on_card(Planted::LargeCircleRefused, large, beyond), 0);
+    assert_eq!(on_card(Planted::StackBelowSmallEnd, large, beyond), 0);
+}
+
 #[test]
 fn traces_can_be_planted_too() {
     let mut input = example_image();

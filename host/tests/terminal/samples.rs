@@ -44,9 +44,10 @@ fn samples_print_what_is_stored() {
         assert!(!samples.is_empty());
         for text in samples {
             let read = read_text(&fs::read(&text).unwrap()).unwrap();
+            let bytes = read.bytes().unwrap();
             let printed = match read.settings {
-                None => trace_output(&read.bytes),
-                Some(settings) => lines(settings, &read.bytes),
+                None => trace_output(&bytes),
+                Some(settings) => lines(settings, &bytes),
             };
             let stored = fs::read(text.with_extension("out")).unwrap();
             assert_eq!(printed, stored, "{}", text.display());

@@ -3,9 +3,10 @@
 use plain_terminal::terminal::records::{
     FLAG_BUS_B, FLAG_INVALID_WORD, FLAG_WRONG_SYNC, RECORD_BYTES,
 };
+use plain_terminal::terminal::trace::image_words;
 use plain_terminal::terminal::trace::IMAGE_BYTES;
 use plain_terminal::terminal::{trace_output, write_record, Record, Settings};
-use plain_terminal::text::{pack, read_text, unpack, visible};
+use plain_terminal::text::{pack, read_names, read_text, unpack, unpack_ram, visible};
 
 use crate::helpers::{heard, record, Random};
 use crate::trace::{image, EXAMPLE_OUTPUT};
@@ -235,7 +236,7 @@ fn settings_and_owners() {
     let text = "settings address 7 area B stack 512 busy-always terminal-flag\n\
         owner 19 Anna   Karlsson # the elder\nimage 2\nowner 3 Bert\nram 0 1234\n";
     let read = read_text(text.as_bytes()).unwrap();
-    assert_eq!(read.bytes, [0x12, 0x34]);
+    assert_eq!(read.bytes().unwrap(), [0x12, 0x34]);
     let expected = Settings {
         address: 7,
         area_b: true,
@@ -371,7 +372,7 @@ fn nothing_is_obeyed() {
 fn errors_name_the_line() {
     assert_eq!(
         error("ram 0143 047E\n# fine\nramm 0163 0500"),
-        "line 3: found \"ramm\", expected settings, owner, records, image, ram, message, raw or a line of a list"
+        "line 3: found \"ramm\", expected settings, owner, records, card, image, ram, message, raw or a line of a list"
     );
     let long = format!("\u{1b}{}", "x".repeat(60));
     let shown = format!("line 1: found \"\\u{{1b}}{}\"..., expected", "x".repeat(39));
@@ -412,6 +413,61 @@ fn errors_in_ram_lines() {
             ),
             ("ram 0FFF 1 2", "found address 1000"),
         ],
+    );
+}
+
+/// The 64K card: addresses to its end, once, before the first line of RAM; and
+/// no bytes.
+#[test]
+fn the_64k_card() {
+    let read = read_text(b"card 64K\nram FFFF ABCD\nmessage 2861 words 1\n").unwrap();
+    assert_eq!((read.ram_words, read.image.len()), (65_536, 131_072));
+    assert_eq!(read.image[131_070..], [0xAB, 0xCD]);
+    assert_eq!(read.records.len(), 80);
+    let refused = "found card 64K, expected a text of the card of 4,096 words: bytes have no \
+        place for the card, and an image is always 8192";
+    let written = unpack_ram(&image_words(&read.image));
+    assert_eq!(written, "card 64K\nram FFFF ABCD\n");
+    assert_eq!(unpack_ram(&[0; 4096]), "");
+    assert_errors(1, &[("card 64K", refused)]);
+    assert_errors(
+        1,
+        &[
+            ("card", "found the end of the line, expected 64K"),
+            ("card 64k", "found \"64k\", expected 64K"),
+            ("card 12K", "found \"12K\", expected 64K"),
+            ("card 64K 1", "found \"1\", expected the end of the line"),
+        ],
+    );
+    const AFTER: &str =
+        "found card after image, ram, a list or a record, expected card before the first line of RAM";
+    assert_errors(
+        2,
+        &[
+            (
+                "card 64K\ncard 64K",
+                "found a second card line, expected one",
+            ),
+            ("ram 0 1\ncard 64K", AFTER),
+            ("list 0400\ncard 64K", AFTER),
+            ("message 2861 words 1\ncard 64K", AFTER),
+            ("image 7\ncard 64K", AFTER),
+            ("card 64K\nimage 7", "found image after another line"),
+            (
+                "card 64K\nram 10000 1",
+                "found \"10000\", expected an address of",
+            ),
+            (
+                "card 64K\nram FFFF 1 2",
+                "found address 10000, expected an address up to FFFF",
+            ),
+        ],
+    );
+    let names = read_names(b"owner 3 Anna\ncard 64K\n").err().unwrap();
+    assert_eq!(
+        names.to_string(),
+        "line 2: found card beside bytes, expected settings or owner: bytes are always of the \
+         card of 4,096 words"
     );
 }
 

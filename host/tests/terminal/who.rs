@@ -122,6 +122,9 @@ fn refusals_in_their_order() {
     assert_eq!(who(&image, &wrong, &[], 0x1000), Err(3));
     assert_eq!(who(&image, &RT5, &[], 0x1000), Err(12));
     assert_eq!(who(&image, &RT5, &[], 0x0FFF), Ok(None));
+    let large = vec![0; 65_536];
+    assert_eq!(who(&large[1..], &RT5, &[], 0x1000), Err(1));
+    assert_eq!(who(&large, &RT5, &[], 0xFFFF), Ok(None));
 }
 
 /// The list of writes, carried out, is what the message does: RAM is the same

@@ -1,7 +1,7 @@
 //! The rows of the table: what is measured.
 
 use plain_terminal::terminal::boundary::{value_words, VALUE_WORDS};
-use plain_terminal::terminal::cells::RAM_WORDS;
+use plain_terminal::terminal::cells::{LARGE_RAM_WORDS, RAM_WORDS};
 use plain_terminal::terminal::long::longer;
 use plain_terminal::terminal::records::RECORD_BYTES;
 use plain_terminal::terminal::{write_record, Record, Settings};
@@ -58,7 +58,45 @@ pub fn rows() -> Vec<Row> {
     rows.extend(labels());
     rows.extend(origins());
     rows.extend(controller());
+    rows.extend(large_card());
     rows
+}
+
+// Subaddress 3 in 4,096 words, and in 8,192.
+const LARGE_CIRCLE: &Image = &[(0x0143, 0x2000), (0x0163, 0x4000), (0x01A3, 0x3CC0)];
+
+/// On the 64K card.
+fn large_card() -> [Row; 6] {
+    let apart: Vec<(usize, u16)> = (0x0140..0x0180).zip((0x1000..).step_by(32)).collect();
+    let sound: Vec<(usize, u16)> = (0x0140..0x01A0).map(|place| (place, 0xFFE0)).collect();
+    let rows = [
+        row("receive 1 word, single, 64K card", SINGLE, bytes(0x2861, 1)),
+        row(
+            "receive 32 words, circular of 4096, 64K card",
+            LARGE_CIRCLE,
+            bytes(0x2860, 32),
+        ),
+        row(
+            "transmit 32 words, circular of 8192, 64K card",
+            LARGE_CIRCLE,
+            bytes(0x2C60, 0),
+        ),
+        row("whole-area check, sound, 64K card", &sound, Work::Area),
+        row(
+            "label of a cell, alone, 64K card",
+            &apart,
+            Work::LabelCell(3),
+        ),
+        row(
+            "label of the area, no pair, 64K card",
+            &apart,
+            Work::LabelArea,
+        ),
+    ];
+    rows.map(|mut row| {
+        row.ram.resize(LARGE_RAM_WORDS, 0);
+        row
+    })
 }
 
 // Flags, conditions, a call and a return, again and again.

@@ -4,7 +4,9 @@ use super::draw::{Asked, KINDS};
 use super::{cell_numbers, Answers};
 use crate::compare::classes;
 use crate::terminal::boundary::PAIRS_WORDS;
-use crate::terminal::cells::{cells_read, meet, Cell, Kind, Scheme, Stack, FIXED_AREAS, RAM_WORDS};
+use crate::terminal::cells::{
+    cells_read, meet, Cell, Kind, Scheme, Stack, FIXED_AREAS, LARGE_RAM_WORDS, RAM_WORDS,
+};
 use crate::terminal::described::{describe_cell, describe_stack, stack_fault};
 use crate::terminal::refusal;
 use crate::terminal::Settings;
@@ -58,7 +60,11 @@ classes! {
     Unread "cells described that are not read",
     TwoFaults "cells described with two faults",
     StackOff "stacks described, pointer no multiple of 4",
-    StackOver "stacks described, pointer over 0FFC",
+    StackOver "stacks described, pointer over 4 below RAM's end",
+    LargeListed "areas of the 64K card listed",
+    BeyondSmallEnd "pairs beyond 0FFF",
+    LargeCircles "pairs with a circle of 4096 or 8192 words",
+    LargeUnsound "circles of 4096 or 8192 words unsound on the 64K card",
     StackFixed "stacks described, on a fixed area",
     DoubleOff "cells unsound, double and no multiple of 32",
     Alone "cells that share with none",
@@ -141,15 +147,16 @@ impl Coverage {
 
     fn take_in_area(&mut self, asked: &Asked) {
         use Class::*;
-        let ram = &asked.ram[..RAM_WORDS];
+        let ram = &asked.ram[..asked.ram_words];
+        self.note(LargeListed, ram.len() == LARGE_RAM_WORDS);
         let stack = Stack::read(ram, &asked.settings);
         let cells = cells_read(ram, &asked.settings);
         let (sound, unsound): (Vec<Cell>, Vec<Cell>) =
-            cells.partition(|cell| cell.is_sound(RAM_WORDS, &stack));
+            cells.partition(|cell| cell.is_sound(ram.len(), &stack));
         self.note(NoneUnsound, unsound.is_empty());
         self.note(AllUnsound, sound.is_empty());
         for cell in &unsound {
-            self.take_in_unsound(cell, &stack);
+            self.take_in_unsound(cell, &stack, ram.len());
         }
         let mut pairs = 0;
         for (place, lower) in sound.iter().enumerate() {
@@ -168,12 +175,14 @@ impl Coverage {
         self.note(NoPairRoom, pairs > asked.pairs_room);
     }
 
-    fn take_in_unsound(&mut self, cell: &Cell, stack: &Stack) {
+    fn take_in_unsound(&mut self, cell: &Cell, stack: &Stack, ram_words: usize) {
         use Class::*;
         let window = cell.window();
         let fixed = FIXED_AREAS.iter().any(|area| meet(area, &window));
         let off = cell.scheme == Scheme::Double && cell.pointer % 32 != 0;
-        self.note(PastEnd, window.end > RAM_WORDS);
+        self.note(PastEnd, window.end > ram_words);
+        let on_large = ram_words == LARGE_RAM_WORDS;
+        self.note(LargeUnsound, on_large && is_large(cell));
         self.note(OnFixed, fixed);
         self.note(OnStack, meet(&window, &stack.block));
         self.note(DoubleOff, off);
@@ -189,6 +198,8 @@ impl Coverage {
         }
         let shared = one.end.min(other.end) - one.start.max(other.start);
         self.note(OneWord, shared == 1);
+        self.note(BeyondSmallEnd, one.start.max(other.start) >= RAM_WORDS);
+        self.note(LargeCircles, is_large(lower) || is_large(higher));
         let kinds = match (lower.kind, higher.kind) {
             (Kind::Receive, Kind::Receive) => Receives,
             (Kind::Transmit, Kind::Transmit) => Transmits,
@@ -209,4 +220,8 @@ impl Coverage {
         self.note(schemes, true);
         true
     }
+}
+
+fn is_large(cell: &Cell) -> bool {
+    matches!(cell.scheme, Scheme::Circular(4096 | 8192))
 }

@@ -3,13 +3,12 @@
 //! every size; and now and then what is refused.
 
 use crate::compare::case::{GUARD, GUARD_WORDS};
+use crate::compare::episode::{card_of, fill_ram};
 use crate::random::Random;
 use crate::terminal::boundary::{
     CELL_DESCRIPTION_WORDS, COUNTS_WORDS, LISTING_WORDS, PAIRS_WORDS, UNSOUND_WORDS,
 };
-use crate::terminal::cells::{
-    control_place, lookup_place, stack_pointer_place, Cell, Kind, Stack, RAM_WORDS,
-};
+use crate::terminal::cells::{control_place, lookup_place, stack_pointer_place, Cell, Kind, Stack};
 use crate::terminal::Settings;
 
 /// One of so many images is spoiled in each of the ways there are.
@@ -35,9 +34,10 @@ impl Asked {
     /// The image of a seed.
     pub fn draw(seed: u64) -> Asked {
         let random = &mut Random::new(seed);
+        let card = card_of(seed);
         let mut asked = Asked {
-            ram: vec![0; RAM_WORDS + GUARD_WORDS],
-            ram_words: RAM_WORDS,
+            ram: vec![0; card + GUARD_WORDS],
+            ram_words: card,
             settings: random.settings(),
             counts_room: room(random, COUNTS_WORDS),
             unsound_room: room(random, UNSOUND_WORDS),
@@ -46,26 +46,31 @@ impl Asked {
             description_room: room(random, CELL_DESCRIPTION_WORDS),
         };
         if random.chance(2) {
-            asked.ram[..RAM_WORDS].fill_with(|| random.word());
+            fill_ram(random, &mut asked.ram[..card]);
         }
-        asked.ram[RAM_WORDS..].fill(GUARD);
+        asked.ram[card..].fill(GUARD);
         asked.place_stack(random);
         match random.below(8) {
             0 => asked.share_one_block(random),
             1..=3 => asked.place_cells(random, 0x0100),
             4 => asked.place_cells(random, 0x0400),
-            _ => asked.place_cells(random, RAM_WORDS),
+            _ => asked.place_cells(random, card),
         }
         asked.spoil(random);
         asked
+    }
+
+    /// How many words of RAM the card has.
+    pub fn card_words(&self) -> usize {
+        self.ram.len() - GUARD_WORDS
     }
 
     /// A sound stack anywhere.
     fn place_stack(&mut self, random: &mut Random) {
         let place = stack_pointer_place(&self.settings);
         while {
-            self.ram[place] = 4 * random.below(RAM_WORDS / 4) as u16;
-            !Stack::read(&self.ram, &self.settings).is_sound(RAM_WORDS)
+            self.ram[place] = 4 * random.below(self.card_words() / 4) as u16;
+            !Stack::read(&self.ram, &self.settings).is_sound(self.card_words())
         } {}
     }
 
@@ -74,7 +79,7 @@ impl Asked {
     fn share_one_block(&mut self, random: &mut Random) {
         let stack = Stack::read(&self.ram, &self.settings);
         while {
-            let common = random.below(RAM_WORDS) as u16;
+            let common = random.below(self.card_words()) as u16;
             for subaddress in 1..=30 {
                 self.ram[control_place(&self.settings, subaddress)] = 0;
                 for kind in KINDS {
@@ -82,19 +87,19 @@ impl Asked {
                 }
             }
             let cell = Cell::read(&self.ram, &self.settings, Kind::Receive, 1);
-            !cell.is_sound(RAM_WORDS, &stack)
+            !cell.is_sound(self.card_words(), &stack)
         } {}
         for _ in 0..random.pick(&[0, 1, 8]) {
             let subaddress = 1 + random.below(30) as u16;
             let kind = random.pick(&KINDS);
             let place = lookup_place(&self.settings, kind, subaddress);
-            self.ram[place] = random.below(RAM_WORDS) as u16;
+            self.ram[place] = random.below(self.card_words()) as u16;
         }
     }
 
     /// Cells that all point into `width` words of RAM.
     fn place_cells(&mut self, random: &mut Random, width: usize) {
-        let first = random.below(RAM_WORDS - width + 1);
+        let first = random.below(self.card_words() - width + 1);
         let plain = random.chance(3);
         for subaddress in 1..=30 {
             let control = if plain { 0 } else { control(random) };
@@ -113,7 +118,8 @@ impl Asked {
 
     fn spoil(&mut self, random: &mut Random) {
         if random.chance(SPOILED_ONE_IN) {
-            let lengths = [0, 1, 0x0200, RAM_WORDS - 1, RAM_WORDS + 1];
+            let card = self.card_words();
+            let lengths = [0, 1, 0x0200, card - 1, card + 1, card.min(12_288)];
             self.ram_words = random.pick(&lengths);
         }
         if random.chance(SPOILED_ONE_IN) {
@@ -124,7 +130,8 @@ impl Asked {
         }
         if random.chance(SPOILED_ONE_IN) {
             let place = stack_pointer_place(&self.settings);
-            self.ram[place] = random.pick(&[0x0001, 0x0102, 0x0100, 0x0300, 0x0FFE, 0x1000]);
+            self.ram[place] =
+                random.pick(&[0x0001, 0x0102, 0x0100, 0x0300, 0x0FFE, 0x1000, 0xFFFE]);
         }
     }
 }

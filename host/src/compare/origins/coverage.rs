@@ -4,6 +4,7 @@
 use super::{Asked, Said, Told};
 use crate::compare::classes;
 use crate::terminal::boundary::{origin_of, PART_WORDS};
+use crate::terminal::cells::{LARGE_RAM_WORDS, RAM_WORDS};
 use crate::terminal::read_record;
 use crate::terminal::records::{RECORD_BYTES, TRANSFER_FAULTS};
 use crate::terminal::refusal;
@@ -11,6 +12,8 @@ use crate::terminal::writes::Part;
 
 classes! {
     Answered "traces answered",
+    LargeCard "traces answered on the 64K card",
+    BeyondSmallEnd "words written beyond 0FFF",
     Refused1 "traces refused with 1, RAM length",
     Refused3 "traces refused with 3, settings",
     NoRecord "traces without a record",
@@ -49,6 +52,8 @@ impl Coverage {
         use Class::*;
         let number = told.parts[0];
         self.note(Answered, number == 0);
+        let is_large = asked.card_words == LARGE_RAM_WORDS;
+        self.note(LargeCard, number == 0 && is_large);
         self.note(Refused1, number == refusal::RAM_LENGTH);
         self.note(Refused3, number == refusal::SETTINGS);
         let short = asked.last_lent < 1 || asked.part_lent < PART_WORDS;
@@ -74,6 +79,9 @@ impl Coverage {
         // Where there is no room for it, the answer cannot be read.
         if !short {
             told.every.iter().for_each(|said| self.take_in_said(said));
+            let beyond = told.every.iter().skip(RAM_WORDS);
+            let is_written = |said: &&Said| said.number == 0 && said.last[0] > 0;
+            self.note(BeyondSmallEnd, beyond.filter(is_written).count() > 0);
             for (said, _) in &told.singles {
                 let answer = origin_of(said.number, &said.last, &said.part);
                 self.note(Single, matches!(answer, Ok(Some(_))));

@@ -1,7 +1,7 @@
 //! Who put a word where it is, over plain slices, as the header has it.
 
 use super::{front, put, remembered_of, remembered_words, settings_of};
-use crate::terminal::cells::{check_ram, RAM_WORDS};
+use crate::terminal::cells::{check_ram, CARDS};
 use crate::terminal::message::REPLY_WORDS;
 use crate::terminal::records::{RECORD_BYTES, RECORD_WORDS};
 use crate::terminal::refusal;
@@ -72,16 +72,19 @@ pub fn who_entry(
 }
 
 fn entry(numbers: &[u64], marks: &[u16], at: usize) -> Result<(u64, [u16; PART_WORDS]), u16> {
-    if [numbers.len(), marks.len()] != [RAM_WORDS; 2] {
+    if !CARDS.contains(&numbers.len()) || marks.len() != numbers.len() {
         return Err(refusal::RAM_LENGTH);
     }
-    if at >= RAM_WORDS {
+    if at >= numbers.len() {
         return Err(refusal::BEYOND_RAM);
     }
-    match (numbers[at], marks[at], marked(marks[at])) {
-        (0, 0, _) => Ok((0, [0; PART_WORDS])),
-        (record @ 1.., _, Some(part)) => Ok((record, part)),
-        _ => Err(refusal::RECORD_LAYOUT),
+    match (numbers[at], marks[at]) {
+        (0, 0) => Ok((0, [0; PART_WORDS])),
+        (0, _) => Err(refusal::RECORD_LAYOUT),
+        (record, mark) => match marked(mark) {
+            Some(part) => Ok((record, part)),
+            None => Err(refusal::RECORD_LAYOUT),
+        },
     }
 }
 

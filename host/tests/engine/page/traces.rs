@@ -83,7 +83,8 @@ impl Trace {
     pub fn source(&self) -> Source {
         let names = read_names(self.names().as_bytes()).unwrap();
         let text = TraceText {
-            bytes: [image_bytes(&self.image), self.records.concat()].concat(),
+            image: image_bytes(&self.image),
+            records: self.records.concat(),
             settings: Some(self.settings),
             ..names
         };
