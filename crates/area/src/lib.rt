@@ -1,3 +1,3 @@
-// The second layer: the whole-area check. Document 01, "Cells and windows".
+// The second layer: the whole-area check; a cell by its number. Document 01, "Cells and windows".
 pub mod area;
 pub mod numbered;
