@@ -17,7 +17,6 @@ use Rattle.c_control.proofs.runs
 use Rattle.c_control.proofs.Back.{started-back, gone-back}
 use Rattle.demands.specs.First.{AnsweredOnly}
 use Rattle.demands.specs.Control.{Demand}
-use Rattle.demands.proofs.Entries.{entry}
 use Rattle.demands.proofs.Answered.{by-number}
 use Rattle.demands.proofs.Exports.{exported}
 
@@ -51,37 +50,53 @@ pub controller : Demand
 controller =
     record {
       start-at =
-          entry (λ κs given. tt) start.start_at.Met.met
-          (λ c.
-          started-answered (now (c .given .0)) (now (c .given .1 .0)) (c .given .1 .1 .0) (c .given .1 .1 .1 .0)
-          (c .given .1 .1 .1 .1 .0)
-          (c .back)
-          (c .allowed));
+          record {
+            any = λ κs given. tt;
+            ends = start.start_at.Met.met;
+            says =
+                λ c.
+                started-answered (now (c .given .0)) (now (c .given .1 .0)) (c .given .1 .1 .0) (c .given .1 .1 .1 .0)
+                (c .given .1 .1 .1 .1 .0)
+                (c .back)
+                (c .allowed);
+          };
       go-on =
-          entry (λ κs given. tt) start.go_on.Met.met
-          (λ c.
-          gone-answered (now (c .given .0)) (now (c .given .1 .0)) (c .given .1 .1 .0) (c .given .1 .1 .1 .0) (c .back)
-          (c .allowed));
+          record {
+            any = λ κs given. tt;
+            ends = start.go_on.Met.met;
+            says =
+                λ c.
+                gone-answered (now (c .given .0)) (now (c .given .1 .0)) (c .given .1 .1 .0) (c .given .1 .1 .1 .0) (c .back)
+                (c .allowed);
+          };
       exported-start =
-          entry (λ κs given. tt) runs.solkverva_control.Met.met
-          (λ c.
-          exported _ _ _ _ _ notRun _ _ _
-          (started-answered (now (c .given .0)) (now (c .given .1 .1 .1 .1 .0)) (c .given .1 .0) (c .given .1 .1 .0)
-          (c .given .1 .1 .1 .0) _ refl)
-          (run-zeros (now (c .given .1 .1 .1 .1 .1 .0)) (now (c .given .1 .1 .1 .1 .1 .1 .0)))
-          (λ r e. r .allowed ∙ λ i. startedAt (e .0 i) (e .1 .0 i) (e .1 .1 .0 i) (e .1 .1 .1 .0 i) (e .1 .1 .1 .1 i))
-          (c .allowed .0)
-          (λ i. c .allowed .1 .0 i ∷ c .allowed .1 .1 i ∷ []));
+          record {
+            any = λ κs given. tt;
+            ends = runs.solkverva_control.Met.met;
+            says =
+                λ c.
+                exported _ _ _ _ _ notRun _ _ _
+                (started-answered (now (c .given .0)) (now (c .given .1 .1 .1 .1 .0)) (c .given .1 .0) (c .given .1 .1 .0)
+                (c .given .1 .1 .1 .0) _ refl)
+                (run-zeros (now (c .given .1 .1 .1 .1 .1 .0)) (now (c .given .1 .1 .1 .1 .1 .1 .0)))
+                (λ r e. r .allowed ∙ λ i. startedAt (e .0 i) (e .1 .0 i) (e .1 .1 .0 i) (e .1 .1 .1 .0 i) (e .1 .1 .1 .1 i))
+                (c .allowed .0)
+                (λ i. c .allowed .1 .0 i ∷ c .allowed .1 .1 i ∷ []);
+          };
       exported-go-on =
-          entry (λ κs given. tt) runs.solkverva_control_on.Met.met
-          (λ c.
-          exported _ _ _ _ _ notRun _ _ _
-          (gone-answered (now (c .given .0)) (now (c .given .1 .1 .0)) (machineFrom (now (c .given .1 .1 .1 .0)))
-          (c .given .1 .0) _ refl)
-          (run-zeros (now (c .given .1 .1 .1 .0)) (now (c .given .1 .1 .1 .1 .0)))
-          (λ r e. r .allowed ∙ λ i. goneOn (e .0 i) (e .1 .0 i) (e .1 .1 .0 i) (e .1 .1 .1 i))
-          (c .allowed .0)
-          (λ i. c .allowed .1 .0 i ∷ c .allowed .1 .1 i ∷ []));
+          record {
+            any = λ κs given. tt;
+            ends = runs.solkverva_control_on.Met.met;
+            says =
+                λ c.
+                exported _ _ _ _ _ notRun _ _ _
+                (gone-answered (now (c .given .0)) (now (c .given .1 .1 .0)) (machineFrom (now (c .given .1 .1 .1 .0)))
+                (c .given .1 .0) _ refl)
+                (run-zeros (now (c .given .1 .1 .1 .0)) (now (c .given .1 .1 .1 .1 .0)))
+                (λ r e. r .allowed ∙ λ i. goneOn (e .0 i) (e .1 .0 i) (e .1 .1 .0 i) (e .1 .1 .1 i))
+                (c .allowed .0)
+                (λ i. c .allowed .1 .0 i ∷ c .allowed .1 .1 i ∷ []);
+          };
       left-by-start =
           λ c z room.
           rw (c .allowed .1 .0)

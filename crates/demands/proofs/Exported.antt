@@ -59,11 +59,10 @@ use Rattle.c_who.proofs.origins
 use Rattle.demands.specs.Calls.{Message, messageOf, CMessage, cBytes, cValue, cLong}
 use Rattle.demands.specs.Meets.{Meets}
 use Rattle.demands.specs.First.{AnsweredOnly, CheckAnswered, writerTests, notWritten}
-use Rattle.demands.specs.Exports.{Exports}
+use Rattle.demands.specs.Exports.{leaving}
 use Rattle.demands.specs.Handed.{shownBy, MessageExported}
 use Rattle.demands.specs.Filled.{exportedPart}
 use Rattle.demands.specs.Exported.{toldOver, notToldOver, Demand}
-use Rattle.demands.proofs.Entries.{entry}
 use Rattle.demands.proofs.Answered.{answered, step-answered, check-answered, read-answered, write-answered, cell-labelled, area-labelled}
 use Rattle.demands.proofs.Long.{read-long-answered, write-long-answered, longer-answered, shorter-answered}
 use Rattle.demands.proofs.Described.{cell-described, stack-described}
@@ -163,12 +162,12 @@ tables-kept l n m = rw (ne-eqb n 0 m)
 fill-beside :
     (s : Settings) (hs : List Heard) (t : Tables) →
     AnsweredOnly (fillTests (length (t .ram)) (length (t .numbers)) (length (t .marks)) s) (refusalOf s t)
-    (refusalOf s t, filledWith s hs t) (λ n. (n, t))
+    (leaving (refusalOf s t) (filledWith s hs t)) (λ n. leaving n t)
 unfolding fillRefusal
 fill-beside s hs t =
     answered (fillTests (length (t .ram)) (length (t .numbers)) (length (t .marks)) s) (refusalOf s t)
-    (refusalOf s t, filledWith s hs t) (λ n. (n, t)) tt tt refl refl refl
-    (λ m i. (refusalOf s t, filled-refused s hs t m i))
+    (leaving (refusalOf s t) (filledWith s hs t)) (λ n. leaving n t) tt tt refl refl refl
+    (λ m i. leaving (refusalOf s t) (filled-refused s hs t m i))
     (λ m. refl)
 
 pub for-callers : Demand
@@ -176,143 +175,204 @@ unfolding tablesAfter
 for-callers =
     record {
       message =
-          entry (λ κs given. tt) from_bytes.solkverva_message.Met.met
-          (λ c. message-exported (cBytes c) (c .allowed .0) (c .allowed .1));
+          record {
+            any = λ κs given. tt;
+            ends = from_bytes.solkverva_message.Met.met;
+            says = λ c. message-exported (cBytes c) (c .allowed .0) (c .allowed .1);
+          };
       message-value =
-          entry (λ κs given. tt) from_value.solkverva_message_value.Met.met
-          (λ c. message-exported (cValue c) (c .allowed .0) (c .allowed .1));
+          record {
+            any = λ κs given. tt;
+            ends = from_value.solkverva_message_value.Met.met;
+            says = λ c. message-exported (cValue c) (c .allowed .0) (c .allowed .1);
+          };
       message-long =
-          entry (λ κs given. tt) from_long.solkverva_message_long.Met.met
-          (λ c. message-exported (cLong c) (c .allowed .0) (c .allowed .1));
+          record {
+            any = λ κs given. tt;
+            ends = from_long.solkverva_message_long.Met.met;
+            says = λ c. message-exported (cLong c) (c .allowed .0) (c .allowed .1);
+          };
       read =
-          entry (λ κs given. tt) calls.solkverva_read.Met.met
-          (λ c.
-          exported _ _ _ _ _ notRead _ _ _ (read-answered (now (c .given .0)) _ refl) (λ n m. value-zeros _ n)
-          (λ r e. r .allowed ∙ ap readRecord e)
-          (c .allowed .0)
-          (c .allowed .1));
+          record {
+            any = λ κs given. tt;
+            ends = calls.solkverva_read.Met.met;
+            says =
+                λ c.
+                exported _ _ _ _ _ notRead _ _ _ (read-answered (now (c .given .0)) _ refl) (λ n m. value-zeros _ n)
+                (λ r e. r .allowed ∙ ap readRecord e)
+                (c .allowed .0)
+                (c .allowed .1);
+          };
       write =
-          entry (λ κs given. tt) calls.solkverva_write.Met.met
-          (λ c.
-          exported _ _ _ _ _ notWritten _ _ _ (write-answered (valueFrom (now (c .given .0))) _ refl) (λ n m. refl)
-          (λ r e. r .allowed ∙ ap writeRecord e)
-          (c .allowed .0)
-          (c .allowed .1));
+          record {
+            any = λ κs given. tt;
+            ends = calls.solkverva_write.Met.met;
+            says =
+                λ c.
+                exported _ _ _ _ _ notWritten _ _ _ (write-answered (valueFrom (now (c .given .0))) _ refl) (λ n m. refl)
+                (λ r e. r .allowed ∙ ap writeRecord e)
+                (c .allowed .0)
+                (c .allowed .1);
+          };
       read-long =
-          entry (λ κs given. tt) long-calls.solkverva_read_long.Met.met
-          (λ c.
-          exported _ _ _ _ _ notReadLong _ _ _ (read-long-answered (now (c .given .0)) _ refl) (λ n m. long-zeros _ n)
-          (λ r e. r .allowed ∙ ap readLong e)
-          (c .allowed .0)
-          (c .allowed .1));
+          record {
+            any = λ κs given. tt;
+            ends = long-calls.solkverva_read_long.Met.met;
+            says =
+                λ c.
+                exported _ _ _ _ _ notReadLong _ _ _ (read-long-answered (now (c .given .0)) _ refl) (λ n m. long-zeros _ n)
+                (λ r e. r .allowed ∙ ap readLong e)
+                (c .allowed .0)
+                (c .allowed .1);
+          };
       write-long =
-          entry (λ κs given. tt) long-calls.solkverva_write_long.Met.met
-          (λ c.
-          exported _ _ _ _ _ notLong _ _ _ (write-long-answered (longFrom (now (c .given .0))) _ refl)
-          (λ n m. long-bytes-zeros _ n)
-          (λ r e. r .allowed ∙ ap writeLong e)
-          (c .allowed .0)
-          (c .allowed .1));
+          record {
+            any = λ κs given. tt;
+            ends = long-calls.solkverva_write_long.Met.met;
+            says =
+                λ c.
+                exported _ _ _ _ _ notLong _ _ _ (write-long-answered (longFrom (now (c .given .0))) _ refl)
+                (λ n m. long-bytes-zeros _ n)
+                (λ r e. r .allowed ∙ ap writeLong e)
+                (c .allowed .0)
+                (c .allowed .1);
+          };
       longer =
-          entry (λ κs given. tt) long-calls.solkverva_longer.Met.met
-          (λ c.
-          exported _ _ _ _ _ notLong _ _ _ (longer-answered (now (c .given .0)) _ refl) (λ n m. long-bytes-zeros _ n)
-          (λ r e. r .allowed ∙ ap longerOf e)
-          (c .allowed .0)
-          (c .allowed .1));
+          record {
+            any = λ κs given. tt;
+            ends = long-calls.solkverva_longer.Met.met;
+            says =
+                λ c.
+                exported _ _ _ _ _ notLong _ _ _ (longer-answered (now (c .given .0)) _ refl) (λ n m. long-bytes-zeros _ n)
+                (λ r e. r .allowed ∙ ap longerOf e)
+                (c .allowed .0)
+                (c .allowed .1);
+          };
       shorter =
-          entry (λ κs given. tt) long-calls.solkverva_shorter.Met.met
-          (λ c.
-          exported _ _ _ _ _ notShort _ _ _ (shorter-answered (now (c .given .0)) _ refl) (λ n m. short-zeros _ n)
-          (λ r e. r .allowed ∙ ap shorterOf e)
-          (c .allowed .0)
-          (c .allowed .1));
+          record {
+            any = λ κs given. tt;
+            ends = long-calls.solkverva_shorter.Met.met;
+            says =
+                λ c.
+                exported _ _ _ _ _ notShort _ _ _ (shorter-answered (now (c .given .0)) _ refl) (λ n m. short-zeros _ n)
+                (λ r e. r .allowed ∙ ap shorterOf e)
+                (c .allowed .0)
+                (c .allowed .1);
+          };
       check-area =
-          entry (λ κs given. tt) calls.solkverva_check_area.Met.met
-          (λ c. exported-check (now (c .given .0)) (settingsFrom (now (c .given .1 .0))) (c .back) (c .allowed));
+          record {
+            any = λ κs given. tt;
+            ends = calls.solkverva_check_area.Met.met;
+            says = λ c. exported-check (now (c .given .0)) (settingsFrom (now (c .given .1 .0))) (c .back) (c .allowed);
+          };
       label-cell =
-          entry (λ κs given. tt) calls.solkverva_label_cell.Met.met
-          (λ c.
-          exported _ _ _ _ _ (λ n. cellAnswer n []) _ _ _
-          (cell-labelled (now (c .given .0)) (settingsFrom (now (c .given .1 .0))) (c .given .1 .1 .0) _ refl)
-          (λ n m. listing-zeros _ n)
-          (λ r e. r .allowed ∙ λ i. cellLabel (e .0 i) (e .1 .0 i) (e .1 .1 i))
-          (c .allowed .0)
-          (c .allowed .1));
+          record {
+            any = λ κs given. tt;
+            ends = calls.solkverva_label_cell.Met.met;
+            says =
+                λ c.
+                exported _ _ _ _ _ (λ n. cellAnswer n []) _ _ _
+                (cell-labelled (now (c .given .0)) (settingsFrom (now (c .given .1 .0))) (c .given .1 .1 .0) _ refl)
+                (λ n m. listing-zeros _ n)
+                (λ r e. r .allowed ∙ λ i. cellLabel (e .0 i) (e .1 .0 i) (e .1 .1 i))
+                (c .allowed .0)
+                (c .allowed .1);
+          };
       label-area =
-          entry (λ κs given. tt) calls.solkverva_label_area.Met.met
-          (λ c.
-          let ram = now (c .given .0) in
-          let s = settingsFrom (now (c .given .1 .0)) in
-          let pairs = now (c .given .1 .1 .1 .1 .0) in
-          exported _ _ _ _ _ (λ n. (areaAnswer n [] 0, pairs)) _ _ _
-          (beside (groundTests ram s) _ _ _ _ _
-          (area-labelled ram s pairs (pairsInto ram s pairs) (areaLabel ram s) refl refl))
-          (λ n m i. counts-zeros (now (c .given .1 .1 .0)) n i ∷ unsound-zeros (now (c .given .1 .1 .1 .0)) n i ∷ pairs ∷ [])
-          (λ r e i. (
-            (r .allowed .0 ∙ λ j. areaLabel (e .0 j) (e .1 .0 j)) i,
-            (r .allowed .1 ∙ λ j. pairsInto (e .0 j) (e .1 .0 j) (e .1 .1 j)) i,
-          ))
-          (c .allowed .0)
-          (λ i. c .allowed .1 .0 i ∷ c .allowed .1 .1 .0 i ∷ c .allowed .1 .1 .1 i ∷ []));
+          record {
+            any = λ κs given. tt;
+            ends = calls.solkverva_label_area.Met.met;
+            says =
+                λ c.
+                let ram = now (c .given .0) in
+                let s = settingsFrom (now (c .given .1 .0)) in
+                let pairs = now (c .given .1 .1 .1 .1 .0) in
+                exported _ _ _ _ _ (λ n. leaving (areaAnswer n [] 0) pairs) _ _ _
+                (beside (groundTests ram s) _ _ _ _ _
+                (area-labelled ram s pairs (pairsInto ram s pairs) (areaLabel ram s) refl refl))
+                (λ n m i. counts-zeros (now (c .given .1 .1 .0)) n i ∷ unsound-zeros (now (c .given .1 .1 .1 .0)) n i ∷ pairs ∷ [])
+                (λ r e i.
+                leaving ((r .allowed .0 ∙ λ j. areaLabel (e .0 j) (e .1 .0 j)) i)
+                ((r .allowed .1 ∙ λ j. pairsInto (e .0 j) (e .1 .0 j) (e .1 .1 j)) i))
+                (c .allowed .0)
+                (λ i. c .allowed .1 .0 i ∷ c .allowed .1 .1 .0 i ∷ c .allowed .1 .1 .1 i ∷ []);
+          };
       describe-cell =
-          entry (λ κs given. tt) descriptions.solkverva_describe_cell.Met.met
-          (λ c.
-          exported _ _ _ _ _ noCell _ _ _
-          (cell-described (now (c .given .0)) (settingsFrom (now (c .given .1 .0))) (c .given .1 .1 .0) _ refl)
-          (λ n m. cell-zeros _ n)
-          (λ r e. r .allowed ∙ λ i. cellDescription (e .0 i) (e .1 .0 i) (e .1 .1 i))
-          (c .allowed .0)
-          (c .allowed .1));
+          record {
+            any = λ κs given. tt;
+            ends = descriptions.solkverva_describe_cell.Met.met;
+            says =
+                λ c.
+                exported _ _ _ _ _ noCell _ _ _
+                (cell-described (now (c .given .0)) (settingsFrom (now (c .given .1 .0))) (c .given .1 .1 .0) _ refl)
+                (λ n m. cell-zeros _ n)
+                (λ r e. r .allowed ∙ λ i. cellDescription (e .0 i) (e .1 .0 i) (e .1 .1 i))
+                (c .allowed .0)
+                (c .allowed .1);
+          };
       describe-stack =
-          entry (λ κs given. tt) descriptions.solkverva_describe_stack.Met.met
-          (λ c.
-          exported _ _ _ _ _ noStack _ _ _
-          (stack-described (now (c .given .0)) (settingsFrom (now (c .given .1 .0))) _ refl)
-          (λ n m. stack-zeros _ n)
-          (λ r e. r .allowed ∙ λ i. stackDescription (e .0 i) (e .1 i))
-          (c .allowed .0)
-          (c .allowed .1));
+          record {
+            any = λ κs given. tt;
+            ends = descriptions.solkverva_describe_stack.Met.met;
+            says =
+                λ c.
+                exported _ _ _ _ _ noStack _ _ _
+                (stack-described (now (c .given .0)) (settingsFrom (now (c .given .1 .0))) _ refl)
+                (λ n m. stack-zeros _ n)
+                (λ r e. r .allowed ∙ λ i. stackDescription (e .0 i) (e .1 i))
+                (c .allowed .0)
+                (c .allowed .1);
+          };
       who =
-          entry (λ κs given. tt) origins.solkverva_who.Met.met
-          (λ c.
-          let ram = now (c .given .0) in
-          let s = settingsFrom (now (c .given .1 .0)) in
-          let a = c .given .1 .1 .0 in
-          let hs = heardIn (now (c .given .1 .1 .1 .0)) in
-          let last = now (c .given .1 .1 .1 .1 .0) in
-          let part = now (c .given .1 .1 .1 .1 .1 .0) in
-          exported _ _ _ _ _ (λ n. (Refused n, ram)) _ _ _
-          (beside (whoTests (length ram) s a) _ _ _ _ _ (ask-answered s a hs ram _ _ refl refl))
-          (λ n m i. ram ∷ told-zeros last part n i)
-          (λ r e i. (
-            (r .allowed .0 ∙ λ j. asked (e .1 .0 j) (e .1 .1 .0 j) (heardIn (e .1 .1 .1 j)) (e .0 j) .at .who) i,
-            (r .allowed .1 ∙ λ j. asked (e .1 .0 j) (e .1 .1 .0 j) (heardIn (e .1 .1 .1 j)) (e .0 j) .ram) i,
-          ))
-          (c .allowed .0)
-          (λ i. c .allowed .1 .0 i ∷ c .allowed .1 .1 .0 i ∷ c .allowed .1 .1 .1 i ∷ []));
+          record {
+            any = λ κs given. tt;
+            ends = origins.solkverva_who.Met.met;
+            says =
+                λ c.
+                let ram = now (c .given .0) in
+                let s = settingsFrom (now (c .given .1 .0)) in
+                let a = c .given .1 .1 .0 in
+                let hs = heardIn (now (c .given .1 .1 .1 .0)) in
+                let last = now (c .given .1 .1 .1 .1 .0) in
+                let part = now (c .given .1 .1 .1 .1 .1 .0) in
+                exported _ _ _ _ _ (λ n. leaving (Refused n) ram) _ _ _
+                (beside (whoTests (length ram) s a) _ _ _ _ _ (ask-answered s a hs ram _ _ refl refl))
+                (λ n m i. ram ∷ told-zeros last part n i)
+                (λ r e i.
+                leaving ((r .allowed .0 ∙ λ j. asked (e .1 .0 j) (e .1 .1 .0 j) (heardIn (e .1 .1 .1 j)) (e .0 j) .at .who) i)
+                ((r .allowed .1 ∙ λ j. asked (e .1 .0 j) (e .1 .1 .0 j) (heardIn (e .1 .1 .1 j)) (e .0 j) .ram) i))
+                (c .allowed .0)
+                (λ i. c .allowed .1 .0 i ∷ c .allowed .1 .1 .0 i ∷ c .allowed .1 .1 .1 i ∷ []);
+          };
       who-fill =
-          entry (λ κs given. tt) origins.solkverva_who_fill.Met.met
-          (λ c.
-          let p = exportedPart c in
-          exported _ _ _ _ _ (λ n. (n, tablesIn (p .before))) _ _ _
-          (fill-beside (p .settings) (p .heard) (tablesIn (p .before)))
-          (tables-kept (p .before))
-          (λ r e i. (
-            (r .allowed .0 ∙ λ j. refusalOf (e .0 j) (e .1 .1 j)) i,
-            (r .allowed .1 ∙ λ j. filledWith (e .0 j) (e .1 .0 j) (e .1 .1 j)) i,
-          ))
-          (c .allowed .0)
-          (c .allowed .1));
+          record {
+            any = λ κs given. tt;
+            ends = origins.solkverva_who_fill.Met.met;
+            says =
+                λ c.
+                let p = exportedPart c in
+                exported _ _ _ _ _ (λ n. leaving n (tablesIn (p .before))) _ _ _
+                (fill-beside (p .settings) (p .heard) (tablesIn (p .before)))
+                (tables-kept (p .before))
+                (λ r e i.
+                leaving ((r .allowed .0 ∙ λ j. refusalOf (e .0 j) (e .1 .1 j)) i)
+                ((r .allowed .1 ∙ λ j. filledWith (e .0 j) (e .1 .0 j) (e .1 .1 j)) i))
+                (c .allowed .0)
+                (c .allowed .1);
+          };
       who-entry =
-          entry (λ κs given. tt) origins.solkverva_who_entry.Met.met
-          (λ c.
-          let last = now (c .given .1 .1 .1 .0) in
-          let part = now (c .given .1 .1 .1 .1 .0) in
-          exported _ _ _ _ _ (λ n. Refused n) _ _ _
-          (entry-answered (now (c .given .0)) (now (c .given .1 .0)) (c .given .1 .1 .0) _ refl)
-          (λ n m. told-zeros last part n)
-          (λ r e. r .allowed ∙ λ i. entryAt (e .0 i) (e .1 .0 i) (e .1 .1 i))
-          (c .allowed .0)
-          (λ i. c .allowed .1 .0 i ∷ c .allowed .1 .1 i ∷ []));
+          record {
+            any = λ κs given. tt;
+            ends = origins.solkverva_who_entry.Met.met;
+            says =
+                λ c.
+                let last = now (c .given .1 .1 .1 .0) in
+                let part = now (c .given .1 .1 .1 .1 .0) in
+                exported _ _ _ _ _ (λ n. Refused n) _ _ _
+                (entry-answered (now (c .given .0)) (now (c .given .1 .0)) (c .given .1 .1 .0) _ refl)
+                (λ n m. told-zeros last part n)
+                (λ r e. r .allowed ∙ λ i. entryAt (e .0 i) (e .1 .0 i) (e .1 .1 i))
+                (c .allowed .0)
+                (λ i. c .allowed .1 .0 i ∷ c .allowed .1 .1 i ∷ []);
+          };
     }

@@ -4,20 +4,20 @@ use mathlib.Core.Path.{_≡_, refl, ap, _∙_}
 use mathlib.Core.List.{List}
 use Rattle.words.specs.Refusal.{Test}
 use Rattle.demands.specs.Answered.{Answered}
-use Rattle.demands.specs.Exports.{Exports}
+use Rattle.demands.specs.Exports.{leaving, Exports}
 use Rattle.demands.specs.First.{AnsweredOnly}
 
 -- an answer, and what is lent to be changed beside it
 pub beside :
     (tests : List Test) {Back Lent : Type 0} (number : ℕ) (back : Back) (refusal : ℕ → Back) (before after : Lent) →
     Answered tests number back refusal before after →
-    AnsweredOnly tests number (back, after) (λ n. (refusal n, before))
+    AnsweredOnly tests number (leaving back after) (λ n. leaving (refusal n) before)
 beside tests number back refusal before after a =
     record {
       order = a .order;
       done = a .done;
       refused = a .refused;
-      zero = λ m i. (a .zero m i, a .kept m i);
+      zero = λ m i. leaving (a .zero m i) (a .kept m i);
       kept = λ m. refl;
     }
 

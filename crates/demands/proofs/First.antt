@@ -33,7 +33,6 @@ use Rattle.who_replay.proofs.question
 use Rattle.who_replay.proofs.fill
 use Rattle.demands.specs.Calls.{fromBytes, fromValue, fromLong, performBytes, performValue, performLong, performed-bytes, performed-value, performed-long}
 use Rattle.demands.specs.First.{Demand}
-use Rattle.demands.proofs.Entries.{entry}
 use Rattle.demands.proofs.Answered.{message-answered, check-answered, read-answered, write-answered, read-back-answered, write-back-answered, number-answered, sharers-found, cell-labelled, area-labelled, take-answered}
 use Rattle.demands.proofs.Long.{read-old-answered, long-read-back-answered, long-write-back-answered, read-long-answered, write-long-answered, longer-answered, shorter-answered}
 use Rattle.demands.proofs.Described.{cell-described, stack-described}
@@ -61,116 +60,224 @@ pub first : Demand
 first =
     record {
       message-from-bytes =
-          entry (λ κs given. tt) serve.message_from_bytes.Met.met
-          (λ c. message-answered (fromBytes c) (c .allowed .0) (c .allowed .1));
+          record {
+            any = λ κs given. tt;
+            ends = serve.message_from_bytes.Met.met;
+            says = λ c. message-answered (fromBytes c) (c .allowed .0) (c .allowed .1);
+          };
       message-from-value =
-          entry (λ κs given. tt) serve.message_from_value.Met.met
-          (λ c. message-answered (fromValue c) (c .allowed .0) (c .allowed .1));
+          record {
+            any = λ κs given. tt;
+            ends = serve.message_from_value.Met.met;
+            says = λ c. message-answered (fromValue c) (c .allowed .0) (c .allowed .1);
+          };
       perform-bytes =
-          entry (λ κs given. tt) heard.perform_bytes.Met.met
-          (λ c. served-meets (performBytes c) (call-served (performed-bytes c)) .first);
+          record {
+            any = λ κs given. tt;
+            ends = heard.perform_bytes.Met.met;
+            says = λ c. served-meets (performBytes c) (call-served (performed-bytes c)) .first;
+          };
       perform-value =
-          entry (λ κs given. tt) heard.perform_value.Met.met
-          (λ c. served-meets (performValue c) (call-served (performed-value c)) .first);
+          record {
+            any = λ κs given. tt;
+            ends = heard.perform_value.Met.met;
+            says = λ c. served-meets (performValue c) (call-served (performed-value c)) .first;
+          };
       check-area =
-          entry (λ κs given. tt) area.check_area.Met.met
-          (λ c. check-answered (now (c .given .0)) (c .given .1 .0) (c .back) (c .allowed));
+          record {
+            any = λ κs given. tt;
+            ends = area.check_area.Met.met;
+            says = λ c. check-answered (now (c .given .0)) (c .given .1 .0) (c .back) (c .allowed);
+          };
       read =
-          entry (λ κs given. tt) reader.read.Met.met (λ c. read-answered (now (c .given .0)) (c .back) (c .allowed));
+          record {
+            any = λ κs given. tt;
+            ends = reader.read.Met.met;
+            says = λ c. read-answered (now (c .given .0)) (c .back) (c .allowed);
+          };
       write =
-          entry (λ κs given. tt) writer.write.Met.met (λ c. write-answered (c .given .0) (c .back) (c .allowed));
+          record {
+            any = λ κs given. tt;
+            ends = writer.write.Met.met;
+            says = λ c. write-answered (c .given .0) (c .back) (c .allowed);
+          };
       read-written =
-          entry (λ κs given. tt) round_trip.read_written.Met.met
-          (λ c. read-back-answered (c .given .0) (c .back) (c .allowed));
+          record {
+            any = λ κs given. tt;
+            ends = round_trip.read_written.Met.met;
+            says = λ c. read-back-answered (c .given .0) (c .back) (c .allowed);
+          };
       write-read =
-          entry (λ κs given. tt) round_trip.write_read.Met.met
-          (λ c. write-back-answered (now (c .given .0)) (c .back) (c .allowed));
+          record {
+            any = λ κs given. tt;
+            ends = round_trip.write_read.Met.met;
+            says = λ c. write-back-answered (now (c .given .0)) (c .back) (c .allowed);
+          };
       message-from-long =
-          entry (λ κs given. tt) long.message_from_long.Met.met
-          (λ c. message-answered (fromLong c) (c .allowed .0) (c .allowed .1));
+          record {
+            any = λ κs given. tt;
+            ends = long.message_from_long.Met.met;
+            says = λ c. message-answered (fromLong c) (c .allowed .0) (c .allowed .1);
+          };
       perform-long =
-          entry (λ κs given. tt) long.perform_long.Met.met
-          (λ c. served-meets (performLong c) (call-served (performed-long c)) .first);
+          record {
+            any = λ κs given. tt;
+            ends = long.perform_long.Met.met;
+            says = λ c. served-meets (performLong c) (call-served (performed-long c)) .first;
+          };
       read-old =
-          entry (λ κs given. tt) long-reader.read_old.Met.met
-          (λ c. read-old-answered (now (c .given .0)) (c .back) (c .allowed));
+          record {
+            any = λ κs given. tt;
+            ends = long-reader.read_old.Met.met;
+            says = λ c. read-old-answered (now (c .given .0)) (c .back) (c .allowed);
+          };
       read-written-long =
-          entry (λ κs given. tt) long-trips.read_written_long.Met.met
-          (λ c. long-read-back-answered (c .given .0) (c .back) (c .allowed));
+          record {
+            any = λ κs given. tt;
+            ends = long-trips.read_written_long.Met.met;
+            says = λ c. long-read-back-answered (c .given .0) (c .back) (c .allowed);
+          };
       write-read-long =
-          entry (λ κs given. tt) long-trips.write_read_long.Met.met
-          (λ c. long-write-back-answered (now (c .given .0)) (c .back) (c .allowed));
+          record {
+            any = λ κs given. tt;
+            ends = long-trips.write_read_long.Met.met;
+            says = λ c. long-write-back-answered (now (c .given .0)) (c .back) (c .allowed);
+          };
       read-long =
-          entry (λ κs given. tt) long-reader.read_long.Met.met
-          (λ c. read-long-answered (now (c .given .0)) (c .back) (c .allowed));
+          record {
+            any = λ κs given. tt;
+            ends = long-reader.read_long.Met.met;
+            says = λ c. read-long-answered (now (c .given .0)) (c .back) (c .allowed);
+          };
       write-long =
-          entry (λ κs given. tt) long-writer.write_long.Met.met
-          (λ c. write-long-answered (c .given .0) (c .back) (c .allowed));
+          record {
+            any = λ κs given. tt;
+            ends = long-writer.write_long.Met.met;
+            says = λ c. write-long-answered (c .given .0) (c .back) (c .allowed);
+          };
       longer =
-          entry (λ κs given. tt) conversion.longer.Met.met
-          (λ c. longer-answered (now (c .given .0)) (c .back) (c .allowed));
+          record {
+            any = λ κs given. tt;
+            ends = conversion.longer.Met.met;
+            says = λ c. longer-answered (now (c .given .0)) (c .back) (c .allowed);
+          };
       shorter =
-          entry (λ κs given. tt) conversion.shorter.Met.met
-          (λ c. shorter-answered (now (c .given .0)) (c .back) (c .allowed));
+          record {
+            any = λ κs given. tt;
+            ends = conversion.shorter.Met.met;
+            says = λ c. shorter-answered (now (c .given .0)) (c .back) (c .allowed);
+          };
       label-cell =
-          entry (λ κs given. tt) one.label_cell.Met.met
-          (λ c. cell-labelled (now (c .given .0)) (c .given .1 .0) (c .given .1 .1 .0) (c .back) (c .allowed));
+          record {
+            any = λ κs given. tt;
+            ends = one.label_cell.Met.met;
+            says = λ c. cell-labelled (now (c .given .0)) (c .given .1 .0) (c .given .1 .1 .0) (c .back) (c .allowed);
+          };
       find-sharers =
-          entry (λ κs given. tt) one.find_sharers.Met.met
-          (λ c.
-          sharers-found (now (c .given .0)) (c .given .1 .0) (c .given .1 .1 .0) (now (c .given .1 .1 .1 .0))
-          (c .left .1 .1 .1 .0) (c .back) (c .allowed .0) (c .allowed .1));
+          record {
+            any = λ κs given. tt;
+            ends = one.find_sharers.Met.met;
+            says =
+                λ c.
+                sharers-found (now (c .given .0)) (c .given .1 .0) (c .given .1 .1 .0) (now (c .given .1 .1 .1 .0))
+                (c .left .1 .1 .1 .0) (c .back) (c .allowed .0) (c .allowed .1);
+          };
       label-area =
-          entry (λ κs given. tt) whole.label_area.Met.met
-          (λ c.
-          area-labelled (now (c .given .0)) (c .given .1 .0) (now (c .given .1 .1 .0)) (c .left .1 .1 .0) (c .back)
-          (c .allowed .0)
-          (c .allowed .1));
+          record {
+            any = λ κs given. tt;
+            ends = whole.label_area.Met.met;
+            says =
+                λ c.
+                area-labelled (now (c .given .0)) (c .given .1 .0) (now (c .given .1 .1 .0)) (c .left .1 .1 .0) (c .back)
+                (c .allowed .0)
+                (c .allowed .1);
+          };
       ground-refusal =
-          entry (λ κs given. tt) area.ground_refusal.Met.met
-          (λ c.
-          number-answered (groundTests (now (c .given .0)) (c .given .1 .0)) (c .back) refl refl
-          (c .allowed ∙ ground-first (now (c .given .0)) (c .given .1 .0)));
+          record {
+            any = λ κs given. tt;
+            ends = area.ground_refusal.Met.met;
+            says =
+                λ c.
+                number-answered (groundTests (now (c .given .0)) (c .given .1 .0)) (c .back) refl refl
+                (c .allowed ∙ ground-first (now (c .given .0)) (c .given .1 .0));
+          };
       who-refusal =
-          entry (λ κs given. tt) tests.who_refusal.Met.met
-          (λ c.
-          number-answered (whoTests (c .given .0) (c .given .1 .0) (c .given .1 .1 .0)) (c .back) refl refl
-          (c .allowed ∙ who-first (c .given .0) (c .given .1 .0) (c .given .1 .1 .0)));
+          record {
+            any = λ κs given. tt;
+            ends = tests.who_refusal.Met.met;
+            says =
+                λ c.
+                number-answered (whoTests (c .given .0) (c .given .1 .0) (c .given .1 .1 .0)) (c .back) refl refl
+                (c .allowed ∙ who-first (c .given .0) (c .given .1 .0) (c .given .1 .1 .0));
+          };
       fill-refusal =
-          entry (λ κs given. tt) table-tests.fill_refusal.Met.met
-          (λ c.
-          number-answered
-          (fillTests (c .given .0) (c .given .1 .0) (c .given .1 .1 .0) (c .given .1 .1 .1 .0)) (c .back) refl refl
-          (c .allowed ∙ fill-first (c .given .0) (c .given .1 .0) (c .given .1 .1 .0) (c .given .1 .1 .1 .0)));
+          record {
+            any = λ κs given. tt;
+            ends = table-tests.fill_refusal.Met.met;
+            says =
+                λ c.
+                number-answered
+                (fillTests (c .given .0) (c .given .1 .0) (c .given .1 .1 .0) (c .given .1 .1 .1 .0)) (c .back) refl refl
+                (c .allowed ∙ fill-first (c .given .0) (c .given .1 .0) (c .given .1 .1 .0) (c .given .1 .1 .1 .0));
+          };
       describe-cell =
-          entry (λ κs given. tt) described-cell.describe_cell.Met.met
-          (λ c. cell-described (now (c .given .0)) (c .given .1 .0) (c .given .1 .1 .0) (c .back) (c .allowed));
+          record {
+            any = λ κs given. tt;
+            ends = described-cell.describe_cell.Met.met;
+            says = λ c. cell-described (now (c .given .0)) (c .given .1 .0) (c .given .1 .1 .0) (c .back) (c .allowed);
+          };
       describe-stack =
-          entry (λ κs given. tt) described-stack.describe_stack.Met.met
-          (λ c. stack-described (now (c .given .0)) (c .given .1 .0) (c .back) (c .allowed));
+          record {
+            any = λ κs given. tt;
+            ends = described-stack.describe_stack.Met.met;
+            says = λ c. stack-described (now (c .given .0)) (c .given .1 .0) (c .back) (c .allowed);
+          };
       walk =
-          entry (λ κs given. tt) walk.walk.Met.met walks;
+          record {
+            any = λ κs given. tt;
+            ends = walk.walk.Met.met;
+            says = walks;
+          };
       view =
-          entry (λ κs given. tt) view.take_at.Met.met
-          (λ c. take-answered (now (c .given .0)) (c .given .1 .0) (c .back) (c .allowed));
+          record {
+            any = λ κs given. tt;
+            ends = view.take_at.Met.met;
+            says = λ c. take-answered (now (c .given .0)) (c .given .1 .0) (c .back) (c .allowed);
+          };
       ask =
-          entry (λ κs given. tt) question.ask.Met.met
-          (λ c.
-          ask-answered (c .given .1 .0) (c .given .1 .1 .0) (heardIn (now (c .given .1 .1 .1 .0)))
-          (now (c .given .0)) (c .back) (c .left .0) (c .allowed .0) (c .allowed .1));
+          record {
+            any = λ κs given. tt;
+            ends = question.ask.Met.met;
+            says =
+                λ c.
+                ask-answered (c .given .1 .0) (c .given .1 .1 .0) (heardIn (now (c .given .1 .1 .1 .0)))
+                (now (c .given .0)) (c .back) (c .left .0) (c .allowed .0) (c .allowed .1);
+          };
       go-on =
-          entry (λ κs given. tt) question.go_on.Met.met
-          (λ c.
-          go-on-answered (c .given .1 .0) (c .given .1 .1 .0) (heardIn (now (c .given .1 .1 .1 .1 .0)))
-          (now (c .given .0)) (c .given .1 .1 .1 .0) (c .back) (c .left .0) (c .allowed));
+          record {
+            any = λ κs given. tt;
+            ends = question.go_on.Met.met;
+            says =
+                λ c.
+                go-on-answered (c .given .1 .0) (c .given .1 .1 .0) (heardIn (now (c .given .1 .1 .1 .1 .0)))
+                (now (c .given .0)) (c .given .1 .1 .1 .0) (c .back) (c .left .0) (c .allowed);
+          };
       fill =
-          entry (λ κs given. tt) fill.fill.Met.met
-          (λ c.
-          fill-answered (c .given .1 .1 .1 .0) (heardIn (now (c .given .1 .1 .1 .1 .1 .0))) (now (c .given .0))
-          (now (c .given .1 .0)) (now (c .given .1 .1 .0)) (c .left .0) (c .left .1 .0) (c .left .1 .1 .0)
-          (c .given .1 .1 .1 .1 .0) (c .back) (c .allowed .0) (c .allowed .1));
+          record {
+            any = λ κs given. tt;
+            ends = fill.fill.Met.met;
+            says =
+                λ c.
+                fill-answered (c .given .1 .1 .1 .0) (heardIn (now (c .given .1 .1 .1 .1 .1 .0))) (now (c .given .0))
+                (now (c .given .1 .0)) (now (c .given .1 .1 .0)) (c .left .0) (c .left .1 .0) (c .left .1 .1 .0)
+                (c .given .1 .1 .1 .1 .0) (c .back) (c .allowed .0) (c .allowed .1);
+          };
       entry-at =
-          entry (λ κs given. tt) table.entry_at.Met.met
-          (λ c.
-          entry-answered (now (c .given .0)) (now (c .given .1 .0)) (c .given .1 .1 .0) (c .back) (c .allowed));
+          record {
+            any = λ κs given. tt;
+            ends = table.entry_at.Met.met;
+            says =
+                λ c.
+                entry-answered (now (c .given .0)) (now (c .given .1 .0)) (c .given .1 .1 .0) (c .back) (c .allowed);
+          };
     }

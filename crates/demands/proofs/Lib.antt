@@ -1,4 +1,3 @@
-pub mod Entries
 pub mod Answered
 pub mod Asked
 pub mod Described

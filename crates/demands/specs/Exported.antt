@@ -5,7 +5,7 @@
 -- `partWords`); the tests that `First.antt` names, and what its functions answer (`readRecord`, `writeRecord`, `readLong`,
 -- `writeLong`, `longerOf`, `shorterOf`, `cellLabel`, `areaLabel` and `pairsInto`, `cellDescription`, `stackDescription`,
 -- `asked`, `filledWith`, `entryAt`).
-use Prim.Native.Nat.{_/_, _%_}
+use Prim.Native.Nat.{ℕ, _/_, _%_}
 use mathlib.Core.Path.{_≡_}
 use mathlib.Core.List.{List, [], _∷_}
 use lib.ListN.{length}
@@ -36,7 +36,7 @@ use Rattle.c_who.specs.Origins.{partWords, partLength, tablesIn, tablesBack}
 use Rattle.demands.specs.Entry.{Entry}
 use Rattle.demands.specs.Functions as f
 use Rattle.demands.specs.Calls.{cBytes, cValue, cLong}
-use Rattle.demands.specs.Exports.{Gives, Exports}
+use Rattle.demands.specs.Exports.{leaving, Gives, Exports}
 use Rattle.demands.specs.Handed.{MessageExported}
 use Rattle.demands.specs.Filled.{filledPart, exportedPart}
 use Rattle.demands.specs.First.{CheckAnswered, writerTests}
@@ -148,12 +148,12 @@ pub record Demand : Type 2 where
       (λ c.
       let (ram, (settings, (counts, (unsound, (pairs, none))))) = c .given in
       let s = settingsFrom (now settings) in
-      Exports (groundTests (now ram) s) (areaLabel (now ram) s, pairsInto (now ram) s (now pairs))
+      Exports (groundTests (now ram) s) (leaving (areaLabel (now ram) s) (pairsInto (now ram) s (now pairs)))
       (Gives f.label-area
       (λ r. (now (r .given .0) ≡ now ram) × ((r .given .1 .0 ≡ s) × (now (r .given .1 .1 .0) ≡ now pairs)))
-      (λ r. (r .back, r .left .1 .1 .0)))
-      (λ a. a .0 .number)
-      (λ a. over (now counts) (countWords (a .0)) ∷ over (now unsound) (a .0 .unsound) ∷ a .1 ∷ [])
+      (λ r. leaving (r .back) (r .left .1 .1 .0)))
+      (λ a. a .back .number)
+      (λ a. over (now counts) (countWords (a .back)) ∷ over (now unsound) (a .back .unsound) ∷ a .left ∷ [])
       (λ n. zerosOver (now counts) countsLength ∷ zerosOver (now unsound) unsoundLength ∷ now pairs ∷ [])
       (c .back)
       (c .left .1 .1 .0 ∷ c .left .1 .1 .1 .0 ∷ c .left .1 .1 .1 .1 .0 ∷ []))
@@ -190,14 +190,14 @@ pub record Demand : Type 2 where
       let (ram, (settings, (a, (trace, (last, (part, none)))))) = c .given in
       let s = settingsFrom (now settings) in
       Exports (whoTests (length (now ram)) s a)
-      (asked s a (heardIn (now trace)) (now ram) .at .who, asked s a (heardIn (now trace)) (now ram) .ram)
+      (leaving (asked s a (heardIn (now trace)) (now ram) .at .who) (asked s a (heardIn (now trace)) (now ram) .ram))
       (Gives f.ask
       (λ r.
       (now (r .given .0) ≡ now ram)
       × ((r .given .1 .0 ≡ s) × ((r .given .1 .1 .0 ≡ a) × (now (r .given .1 .1 .1 .0) ≡ now trace))))
-      (λ r. (r .back, r .left .0)))
-      (λ w. valuesOf (w .0) .number)
-      (λ w. w .1 ∷ toldOver (now last) (now part) (w .0))
+      (λ r. leaving (r .back) (r .left .0)))
+      (λ w. valuesOf (w .back) .number)
+      (λ w. w .left ∷ toldOver (now last) (now part) (w .back))
       (λ n. now ram ∷ notToldOver (now last) (now part))
       (c .back)
       (c .left .0 ∷ c .left .1 .1 .1 .1 .0 ∷ c .left .1 .1 .1 .1 .1 .0 ∷ []))
@@ -208,14 +208,14 @@ pub record Demand : Type 2 where
       let p = exportedPart c in
       let l = p .before in
       Exports (fillTests (length (l .ram)) (length (l .numbers)) (length (l .marks)) (p .settings))
-      (refusalOf (p .settings) (tablesIn l), filledWith (p .settings) (p .heard) (tablesIn l))
+      (leaving (refusalOf (p .settings) (tablesIn l)) (filledWith (p .settings) (p .heard) (tablesIn l)))
       (Gives f.fill-tables
       (λ r.
       (filledPart r .settings ≡ p .settings)
       × ((filledPart r .heard ≡ p .heard) × (filledPart r .before ≡ tablesIn l)))
-      (λ r. (filledPart r .number, filledPart r .after)))
-      (λ t. t .0)
-      (λ t. tablesBack l (t .0) (t .1))
+      (λ r. leaving (filledPart r .number) (filledPart r .after)))
+      (λ t. t .back)
+      (λ t. tablesBack l (t .back) (t .left))
       (λ n. l)
       (p .number)
       (p .after))

@@ -7,6 +7,14 @@ use Rattle.words.specs.Refusal.{Test}
 use Rattle.demands.specs.Entry.{Function, Call}
 use Rattle.demands.specs.Answered.{Answered}
 
+-- what a function gives back, and what it leaves in what it is lent to be changed
+pub record Leaves (Back Lent : Type 0) : Type 0 where
+  pub back : Back
+  pub left : Lent
+
+abbrev pub leaving : {Back Lent : Type 0} → Back → Lent → Leaves Back Lent
+leaving back left = record { back = back; left = left }
+
 -- every call of a function on these arguments gives this
 abbrev pub Gives : (f : Function) → (Call f → Type 0) → {Back : Type 0} → (Call f → Back) → Back → Type 0
 Gives f On backOf answer = (r : Call f) → On r → backOf r ≡ answer

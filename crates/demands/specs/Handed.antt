@@ -1,15 +1,15 @@
 -- A message for a caller in C or Rust is a message, put back as plain words over what was lent; and such calls one after
 -- the other.
--- To believe: `stateIn`, the state that the lent words say; `handedBack`, a state and an answer put over them.
-use Prim.Native.Nat.{ℕ, _≤_}
+-- To believe: `stateIn`, the state that the lent words say; `handedBack`, a state and an answer put over them;
+-- `refusalWords`, "the number, the rest zero".
 use mathlib.Core.Path.{_≡_}
 use mathlib.Core.List.{List, [], _∷_, map}
-use lib.ListN.{length, replicate}
 use Rattle.words.specs.declared.settings.Settings.{Settings}
 use Rattle.message.specs.Heard.{Heard}
 use Rattle.message.specs.Tests.{testsFor}
 use Rattle.message.specs.Message.{answerOf, step}
 use Rattle.c_words.specs.Over.{over}
+use Rattle.c_words_messages.specs.Answers.{refusalWords}
 use Rattle.c_words_messages.specs.Call.{Lent, lentOf, stateIn, handedBack}
 use Rattle.demands.specs.Calls.{Message, messageOf, CMessage}
 use Rattle.demands.specs.Meets.{Meets}
@@ -28,7 +28,7 @@ MessageExported e =
     Exports (testsFor (e .settings) (e .heard) (stateIn (e .before))) (shownBy e) Meets (λ m. m .answer .number)
     (λ m. handedBack (e .before) (m .after) (m .answer))
     (λ n.
-    lentOf (e .before .ram) (e .before .reply) (e .before .remembered) (over (e .before .answer) (n ∷ replicate 8 0)))
+    lentOf (e .before .ram) (e .before .reply) (e .before .remembered) (over (e .before .answer) (refusalWords n)))
     (e .number)
     (e .after)
 

@@ -1,5 +1,6 @@
 -- What a message keeps: all that it shows, but for the stack-rollover bit.
 use Prim.Native.Nat.{ℕ, _-_, _*_, _/_, _%_}
+use Rattle.message.specs.Answer.{withInterrupt}
 use Rattle.message.specs.Run.{Effect}
 
 -- interrupt bit 6, "stack wrapped", cleared
@@ -10,18 +11,7 @@ withoutWrap interrupt = interrupt - 0x40 * (interrupt / 0x40 % 2)
 unfoldable pub withoutStackRollover : Effect → Effect
 withoutStackRollover e =
     record {
-      answer =
-          record {
-            number = e .answer .number;
-            «block_status» = e .answer .«block_status»;
-            cell = e .answer .cell;
-            before = e .answer .before;
-            after = e .answer .after;
-            status = e .answer .status;
-            answered = e .answer .answered;
-            sent = e .answer .sent;
-            interrupt = withoutWrap (e .answer .interrupt);
-          };
+      answer = withInterrupt (e .answer) (withoutWrap (e .answer .interrupt));
       sends = e .sends;
       descriptor = e .descriptor;
     }

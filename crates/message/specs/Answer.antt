@@ -38,3 +38,18 @@ acceptedWith p =
 -- by the number that the tests gave
 unfoldable pub answerFor : ℕ → Plan → Answer
 answerFor number p = cond (eqb number 0) (acceptedWith p) (refusedWith number)
+
+-- the same answer with another interrupt word
+abbrev pub withInterrupt : Answer → ℕ → Answer
+withInterrupt a word =
+    record {
+      number = a .number;
+      «block_status» = a .«block_status»;
+      cell = a .cell;
+      before = a .before;
+      after = a .after;
+      status = a .status;
+      answered = a .answered;
+      sent = a .sent;
+      interrupt = word;
+    }
