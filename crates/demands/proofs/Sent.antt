@@ -5,19 +5,18 @@ use mathlib.Core.Path.{_≡_, refl}
 use mathlib.Core.Logic.{⊎-elim}
 use mathlib.Core.Bool.{Bool, true, false, not, cond, _&&_, _||_, true≢false}
 use mathlib.Core.List.{List}
-use lib.ListN.{length, getD, length-map}
+use lib.ListN.{length, length-map}
 use Rattle.words.specs.declared.settings.Settings.{Settings}
 use Rattle.words.specs.Bits.{bitOf}
 use Rattle.words.specs.Command.{transmits, wordCount}
 use Rattle.words.proofs.Basics.{yes-or-no}
 use Rattle.records.specs.declared.value.Record.{Record}
 use Rattle.faults.specs.Fault.{anyFault, faultsFor, faultsOf}
-use Rattle.windows.specs.Window.{placeOf}
+use Rattle.memory.proofs.Rows.{length-row}
 use Rattle.lookup.specs.declared.target.Target.{Target}
 use Rattle.plan.specs.Act.{wordsSent, actWith, actOf}
 use Rattle.plan.specs.Deed.{deedWith, deedOf}
 use Rattle.writes.specs.Reply.{replyWrites, replyWords}
-use Rattle.writes.proofs.Replied.{length-writes}
 
 or-true : (a : Bool) → (a || true) ≡ true
 or-true true = refl
@@ -60,6 +59,6 @@ words-told ram s t v =
     let d = deedOf s t v in
     ⊎-elim
     (λ (e : d .answered ≡ true).
-    rw (e, length-map, length-writes (λ k. k + 1) (λ k. getD ram (placeOf (d .window) k) 0) (d .sent)) (omega arith))
+    rw (e, length-map, length-row) (omega arith))
     (λ (e : d .answered ≡ false). rw (e, none-sent s t v e))
     (yes-or-no (d .answered))
