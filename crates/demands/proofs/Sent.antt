@@ -12,11 +12,11 @@ use Rattle.words.specs.Command.{transmits, wordCount}
 use Rattle.words.proofs.Basics.{yes-or-no}
 use Rattle.records.specs.declared.value.Record.{Record}
 use Rattle.faults.specs.Fault.{anyFault, faultsFor, faultsOf}
-use Rattle.memory.proofs.Rows.{length-row}
 use Rattle.lookup.specs.declared.target.Target.{Target}
 use Rattle.plan.specs.Act.{wordsSent, actWith, actOf}
 use Rattle.plan.specs.Deed.{deedWith, deedOf}
 use Rattle.writes.specs.Reply.{replyWrites, replyWords}
+use Rattle.writes.proofs.Replied.{behind-length}
 
 or-true : (a : Bool) → (a || true) ≡ true
 or-true true = refl
@@ -59,6 +59,6 @@ words-told ram s t v =
     let d = deedOf s t v in
     ⊎-elim
     (λ (e : d .answered ≡ true).
-    rw (e, length-map, length-row) (omega arith))
+    rw (e, length-map, behind-length) (omega arith))
     (λ (e : d .answered ≡ false). rw (e, none-sent s t v e))
     (yes-or-no (d .answered))

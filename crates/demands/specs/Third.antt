@@ -60,7 +60,7 @@ pub record Exchanged (s : Settings) (x : State) (old new : List Message) (y z : 
       getD (z .ram) (stackWindow (x .ram) s .start + j) 0
       ≡ stackWord (x .ram) (stackWindow (x .ram) s) (map (λ e. e .descriptor) (allSeen new)) j
   -- "the remembered command and status are the new last message's."
-  pub remembered : z .remembered ≡ rememberedLast (heardOf new) (allSeen new)
+  pub remembered : z .remembered ≡ rememberedLast (x .remembered) (heardOf new) (allSeen new)
 
 -- "with 33 reply words": each message is lent so many
 abbrev pub Roomy : Message → Type 0

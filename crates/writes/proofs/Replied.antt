@@ -74,7 +74,7 @@ behind-row ram w sent third alone =
     (λ (e : (eqb sent 1 && alone) ≡ false). rw e (row-writes (λ k. getD ram (placeOf w k) 0) sent))
     (yes-or-no (eqb sent 1 && alone))
 
-behind-length : (ram : List ℕ) (w : Window) (sent third : ℕ) (alone : Bool) → length (sentBehind ram w sent alone third) ≡ sent
+pub behind-length : (ram : List ℕ) (w : Window) (sent third : ℕ) (alone : Bool) → length (sentBehind ram w sent alone third) ≡ sent
 unfolding sentBehind
 behind-length ram w sent third alone =
     ⊎-elim
