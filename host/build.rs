@@ -1,4 +1,4 @@
-//! With the feature `engine`, links the proved library's five archives.
+//! With the feature `engine`, links the proved library's seven archives.
 //! Without it there is nothing to do.
 
 use std::env;
@@ -9,10 +9,11 @@ use std::process;
 /// them.
 const FOLDER: &str = "SOLKVERVA_LIB";
 /// An archive `libNAME.a` for each.
-const NAMES: [&str; 6] = [
+const NAMES: [&str; 7] = [
     "c_questions",
     "c_message_bytes",
     "c_message_values",
+    "c_message_long",
     "c_who",
     "c_long",
     "c_control",

@@ -1,8 +1,8 @@
-/* The proved terminal, for callers in C and Rust. scripts/proved library builds what to link, for x86-64: six archives
+/* The proved terminal, for callers in C and Rust. scripts/proved library builds what to link, for x86-64: seven archives
  * in target/built/target/staticlib/, libc_questions.a, libc_message_bytes.a (solkverva_message), libc_message_values.a
- * (solkverva_message_value), libc_who.a (solkverva_who and the two like it), libc_long.a (long
- * records) and libc_control.a (solkverva_control and solkverva_control_on). None needs another, so their order is
- * free.
+ * (solkverva_message_value), libc_message_long.a (solkverva_message_long), libc_who.a (solkverva_who and the two like it),
+ * libc_long.a (all else of long records) and libc_control.a (solkverva_control and solkverva_control_on). None needs
+ * another, so their order is free.
  *
  * Every function returns, with an answer for any contents and any lengths of what is lent, and writes nothing else.
  *

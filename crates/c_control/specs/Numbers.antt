@@ -54,5 +54,8 @@ unfoldable pub machineLeft : List ℕ → Ran → List ℕ
 machineLeft xs r = cond (eqb (refusalIn (r .end)) 0) (over xs (machineNumbers (r .machine))) xs
 
 -- what a run tells: how it ended, and its steps
+abbrev pub ranLength : ℕ
+ranLength = 2
+
 unfoldable pub ranNumbers : Ran → List ℕ
 ranNumbers r = endKind (r .end) ∷ r .steps ∷ []

@@ -3,7 +3,6 @@
 -- from its function.
 use Rattle.words.proofs.Settled.{determined, Settled}
 use Rattle.c_long.proofs.calls
-use Rattle.c_long.proofs.from_long
 
 pub read-long-settled : Settled 2 calls.solkverva_read_long.Kinds.ps calls.solkverva_read_long.Kinds.r calls.solkverva_read_long.Reads.Post
 read-long-settled κs a x y v w p q = (determined (p .0) (q .0), λ i. (v .0, (determined (p .1) (q .1) i, v .1 .1)))
@@ -16,11 +15,3 @@ longer-settled κs a x y v w p q = (determined (p .0) (q .0), λ i. (v .0, (dete
 
 pub shorter-settled : Settled 2 calls.solkverva_shorter.Kinds.ps calls.solkverva_shorter.Kinds.r calls.solkverva_shorter.Reads.Post
 shorter-settled κs a x y v w p q = (determined (p .0) (q .0), λ i. (v .0, (determined (p .1) (q .1) i, v .1 .1)))
-
-pub message-long-settled :
-    Settled 6 from_long.solkverva_message_long.Kinds.ps from_long.solkverva_message_long.Kinds.r from_long.solkverva_message_long.Reads.Post
-message-long-settled κs a x y v w p q =
-    let lent = determined (p .1) (q .1) in (
-      determined (p .0) (q .0),
-      λ i. (lent i .ram, (lent i .reply, (v .1 .1 .0, (lent i .remembered, (v .1 .1 .1 .1 .0, (lent i .answer, v .1 .1 .1 .1 .1 .1)))))),
-    )

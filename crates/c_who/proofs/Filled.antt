@@ -25,7 +25,7 @@ module _
     -- a part that is refused: nothing is put
     pub not-filled :
         (n ≡ 0 → ⊥) → lentTablesOf ram numbers marks (l .remembered) (l .records) ≡ tablesAfter s hs l
-    unfolding tablesAfter
+    unfolding tablesAfter tablesBack
     not-filled m =
         let same : tablesOf ram numbers marks at ≡ tablesIn l = left ∙ filled-refused s hs (tablesIn l) (λ z. m (told ∙ z)) in
         rw (← told, ne-eqb n 0 m)

@@ -2,7 +2,6 @@
 use Prim.Native.Nat.{ℕ}
 use mathlib.Core.Bool.{cond}
 use mathlib.Core.List.{List, [], _∷_}
-use lib.ListN.{getD}
 use lib.Dec.{eqb}
 use Rattle.words.specs.declared.settings.Settings.{Settings}
 use Rattle.message.specs.Heard.{Heard}
@@ -10,15 +9,19 @@ use Rattle.who_tables.specs.declared.table.Filling.{Filling}
 use Rattle.who.specs.declared.values.Values.{Values}
 use Rattle.who_tables.specs.Table.{Tables, tablesOf, refusalOf, filledWith}
 use Rattle.c_words.specs.Over.{over}
+use Rattle.c_words.specs.Fields.{wordIn}
 use Rattle.c_words.specs.Setup.{rememberedFrom, rememberedWords}
 
 -- three words: what was written, "its cell and its place in the message"
+abbrev pub partLength : ℕ
+partLength = 3
+
 unfoldable pub partWords : Values → List ℕ
 partWords v = v .kind ∷ v .cell ∷ v .place ∷ []
 
 -- where a replay stands: what is remembered, and how many records have gone by
 unfoldable pub fillingFrom : List ℕ → List ℕ → Filling
-fillingFrom remembered records = record { remembered = rememberedFrom remembered; number = getD records 0 0 }
+fillingFrom remembered records = record { remembered = rememberedFrom remembered; number = wordIn records 0 }
 
 -- what is lent for the tables
 pub record LentTables : Type 0 where
@@ -35,8 +38,9 @@ lentTablesOf ram numbers marks remembered records =
 abbrev pub tablesIn : LentTables → Tables
 tablesIn l = tablesOf (l .ram) (l .numbers) (l .marks) (fillingFrom (l .remembered) (l .records))
 
-unfoldable pub tablesBack : LentTables → Tables → LentTables
-tablesBack l t =
+-- tables put back into it. They are put only where the part is done: a refusal writes nothing.
+abbrev pub tablesPut : LentTables → Tables → LentTables
+tablesPut l t =
     record {
       ram = t .ram;
       numbers = t .numbers;
@@ -45,6 +49,9 @@ tablesBack l t =
       records = over (l .records) (t .at .number ∷ []);
     }
 
--- and what stands in it after a part of a trace; a refusal writes nothing
+unfoldable pub tablesBack : LentTables → ℕ → Tables → LentTables
+tablesBack l number t = cond (eqb number 0) (tablesPut l t) l
+
+-- and what stands in it after a part of a trace
 unfoldable pub tablesAfter : Settings → List Heard → LentTables → LentTables
-tablesAfter s hs l = cond (eqb (refusalOf s (tablesIn l)) 0) (tablesBack l (filledWith s hs (tablesIn l))) l
+tablesAfter s hs l = tablesBack l (refusalOf s (tablesIn l)) (filledWith s hs (tablesIn l))

@@ -1,3 +1,4 @@
 pub mod Order
+pub mod Again
 pub mod Room
 pub mod Determined

@@ -7,6 +7,9 @@ use Rattle.soundness.specs.declared.stack.StackDescription.{StackDescription}
 
 -- eight words: kind, subaddress, 1 where the whole-area check reads the cell or 0, scheme; then where it lies, and its
 -- faults
+abbrev pub cellLength : ℕ
+cellLength = 8
+
 unfoldable pub cellWords : CellDescription → List ℕ
 cellWords d =
     d .kind
@@ -20,5 +23,8 @@ cellWords d =
     ∷ []
 
 -- four words: where it lies, and its faults
+abbrev pub stackLength : ℕ
+stackLength = 4
+
 unfoldable pub stackWords : StackDescription → List ℕ
 stackWords d = d .pointer ∷ d .start ∷ d .size ∷ d .faults ∷ []

@@ -12,9 +12,18 @@ sharerWords [] = []
 sharerWords (x ∷ xs) = x .cell ∷ bitOf (x .writes) ∷ sharerWords xs
 
 -- of one cell: how many cells are listed, then their words; those behind the last are 0
+abbrev pub listingLength : ℕ
+listingLength = 179
+
 unfoldable pub listingWords : CellLabel → List ℕ
 listingWords l = l .count ∷ sharerWords (l .cells)
 
--- of the whole area: how many cells are unsound, and how many pairs there are in all
+-- of the whole area: how many cells are unsound, and how many pairs there are in all; and the unsound cells
+abbrev pub countsLength : ℕ
+countsLength = 2
+
+abbrev pub unsoundLength : ℕ
+unsoundLength = 90
+
 unfoldable pub countWords : AreaLabel → List ℕ
 countWords l = l .«unsound_count» ∷ l .pairs ∷ []

@@ -1,4 +1,3 @@
 pub mod Early
 pub mod Called
-pub mod Refused
 pub mod Determined

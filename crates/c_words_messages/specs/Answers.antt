@@ -9,6 +9,9 @@ use Rattle.c_words.specs.Over.{over}
 use Rattle.c_words.specs.Setup.{rememberedWords}
 
 -- nine words, in the answer's order; `answered` is 1 or 0
+abbrev pub answerLength : ℕ
+answerLength = 9
+
 unfoldable pub answerWords : Answer → List ℕ
 answerWords a =
     a .number

@@ -50,7 +50,12 @@ pub(crate) fn served(ram: &mut [u16], reply: &mut [u16], b: Bench, n: u16) -> Ou
 }
 
 // A message made from the line's numbers.
-pub(crate) fn message(ram: &mut [u16; 65792], reply: &mut [u16; 64], b: Bench, n: Numbers) -> Bench {
+pub(crate) fn message(
+    ram: &mut [u16; 65792],
+    reply: &mut [u16; 64],
+    b: Bench,
+    n: Numbers,
+) -> Bench {
     let next = built(b, RECORD, n);
     let o = served(ram, reply, next, 1);
     outcome(o);

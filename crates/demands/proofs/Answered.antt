@@ -1,16 +1,15 @@
 -- What each entry point answers, from what its contract says of it.
-use Prim.Native.Nat.{ℕ, _+_, _-_, _/_, _%_}
+use Prim.Native.Nat.{ℕ, _+_, _-_}
 use native.Mathlib.Omega.{arith}
 use mathlib.Core.Path.{_≡_, refl, sym, ap, _∙_}
 use mathlib.Core.Logic.{⊎-elim}
 use mathlib.Core.Bool.{true, false, not, cond}
 use mathlib.Core.List.{List, [], _∷_}
-use lib.ListN.{length, take, drop, replicate}
+use lib.ListN.{length, take, drop}
 use lib.Seq.{sets}
 use lib.Dec.{eqb}
 use borrow.Author.Tests.{eq-eqb, ne-eqb}
-use Rattle.words.specs.Number.{recordLayout}
-use Rattle.words.specs.Refusal.{Test, _when_, firstOf}
+use Rattle.words.specs.Refusal.{Test, firstOf}
 use Rattle.words.specs.declared.settings.Settings.{Settings}
 use Rattle.words.proofs.Basics.{yes-or-no, eq-or-ne}
 use Rattle.words.proofs.Refusals.{numbered, first-zero, first-number}
@@ -20,45 +19,33 @@ use Rattle.records.specs.Value.{keepsLayout}
 use Rattle.layout.specs.declared.reader.Reading.{Reading}
 use Rattle.layout.specs.declared.writer.Written.{Written}
 use Rattle.layout.specs.Layout.{valueIn, readerRefusal, readRecord, notRead}
-use Rattle.layout.specs.Writing.{zeroBytes, bytesOf, writerRefusal, writeRecord}
+use Rattle.layout.specs.Writing.{bytesOf, writerRefusal, writeRecord}
 use Rattle.layout.specs.RoundTrip.{readBack, writeBack}
-use Rattle.layout.proofs.reader
-use Rattle.layout.proofs.writer
 use Rattle.area.specs.declared.area.Checked.{Checked}
 use Rattle.label.specs.declared.one.CellLabel.{CellLabel}
 use Rattle.label.specs.declared.one.Counted.{Counted}
 use Rattle.label.specs.declared.whole.AreaLabel.{AreaLabel}
 use Rattle.label.specs.Label.{cellTests, cellRefusal, sharersOf, countedOf, cellAnswer, cellLabel, areaAnswer, areaPairs, areaUnsound, areaLabel, pairsInto}
 use Rattle.area.specs.Area.{groundTests, groundRefusal, areaTests, areaRefusal, checkArea}
-use Rattle.area.proofs.area
 use Rattle.area.proofs.Whole.{area-lowest, area-no-cell}
 use Rattle.message.specs.Heard.{Heard, heardBytes}
 use Rattle.message.specs.Tests.{testsFor, recordTests, refusalFor}
 use Rattle.message.specs.Answer.{refusedWith}
 use Rattle.message.specs.Message.{answerOf, step}
-use Rattle.message.proofs.serve
 use Rattle.message.proofs.Refusals.{number-told, refused-answer, refused-state}
-use Rattle.demands.specs.Calls.{Message, Exported}
+use Rattle.demands.specs.Calls.{Message}
 use Rattle.trace_view.specs.declared.view.Taken.{Taken}
 use Rattle.trace_view.specs.View.{noneAt, takenAt}
 use Rattle.trace_view.proofs.Views.{taken-none, taken-some}
-use Rattle.message.proofs.FromBytes.{record-number}
-use Rattle.c_words.specs.Over.{over}
-use Rattle.c_words_areas.specs.Check.{checkWord}
-use Rattle.c_words_messages.specs.Values.{valueWords}
-use Rattle.c_words_messages.specs.Call.{Lent, lentOf, stateIn, callNumber, lentAfter}
-use Rattle.c_words_areas.specs.Labels.{listingWords, countWords}
-use Rattle.c_words_messages.proofs.Refused.{message-refused}
-use Rattle.c_questions.proofs.Refused.{read-refused, write-refused, label-cell-refused, counts-refused, unsound-refused, pairs-refused}
-use Rattle.c_words_areas.proofs.Halves.{upper-half, lower-half}
-use Rattle.demands.specs.Answered.{rising, Answered}
+use Rattle.demands.specs.Order.{statedOrder, follow}
+use Rattle.demands.specs.Answered.{Answered}
 use Rattle.demands.specs.Meets.{MessageAnswered}
-use Rattle.demands.specs.First.{writerTests, NumberAnswered, ExportedAnswered, TakeAnswered, CheckAnswered, ReadAnswered, WriteAnswered}
+use Rattle.demands.specs.First.{AnsweredOnly, NumberAnswered, CheckAnswered, ReadAnswered, writerTests, notWritten, TakeAnswered}
 
 -- where the number is that of the first test that holds, what is left to show is what a refusal gives back and leaves
 pub answered :
     (tests : List Test) {Back Lent : Type 0} (number : ℕ) (back : Back) (refusal : ℕ → Back) (before after : Lent) →
-    rising tests ≡ true →
+    follow statedOrder tests ≡ true →
     numbered tests ≡ true →
     number ≡ firstOf tests →
     ((number ≡ 0 → ⊥) → back ≡ refusal number) →
@@ -96,7 +83,7 @@ unfolding checkArea areaRefusal
 check-answered ram s back e =
     record {
       answered =
-          answered (areaTests ram s) _ back _ ram ram refl refl (ap (λ (c : Checked). c .number) e) (λ m. refl)
+          answered (areaTests ram s) _ back _ tt tt refl refl (ap (λ (c : Checked). c .number) e) (λ m. refl)
           (λ m. refl);
       named = rw e (area-lowest ram s);
       unnamed = rw e (area-no-cell ram s);
@@ -104,74 +91,70 @@ check-answered ram s back e =
 
 -- what is given back by the number of the first test that holds, where nothing is lent to be changed
 pub by-number :
-    (tests : List Test) {Back Lent : Type 0} (numberOf : Back → ℕ) (back done : Back) (refusal : ℕ → Back)
-    (lent : Lent) →
-    rising tests ≡ true →
+    (tests : List Test) {Back : Type 0} (numberOf : Back → ℕ) (back done : Back) (refusal : ℕ → Back) →
+    follow statedOrder tests ≡ true →
     numbered tests ≡ true →
     numberOf done ≡ 0 →
     ((n : ℕ) → numberOf (refusal n) ≡ n) →
     back ≡ cond (eqb (firstOf tests) 0) done (refusal (firstOf tests)) →
-    Answered tests (numberOf back) back refusal lent lent
-by-number tests numberOf back done refusal lent order some none tells e =
+    AnsweredOnly tests (numberOf back) back refusal
+by-number tests numberOf back done refusal order some none tells e =
     let number = firstOf tests in
     ⊎-elim
     (λ (z : number ≡ 0).
     let same : back ≡ done = e ∙ rw (eq-eqb number 0 z) in
     let told : numberOf back ≡ 0 = ap numberOf same ∙ none in
-    answered tests (numberOf back) back refusal lent lent order some (told ∙ sym z) (λ m. absurd (m told)) (λ m. refl))
+    answered tests (numberOf back) back refusal tt tt order some (told ∙ sym z) (λ m. absurd (m told)) (λ m. refl))
     (λ (m : number ≡ 0 → ⊥).
     let same : back ≡ refusal number = e ∙ rw (ne-eqb number 0 m) in
     let told : numberOf back ≡ number = ap numberOf same ∙ tells number in
-    answered tests (numberOf back) back refusal lent lent order some told (λ k. same ∙ ap refusal (sym told))
-    (λ k. refl))
+    answered tests (numberOf back) back refusal tt tt order some told (λ k. same ∙ ap refusal (sym told)) (λ k. refl))
     (eq-or-ne number 0)
 
 pub read-answered : (bytes : List ℕ) (back : Reading) → back ≡ readRecord bytes → ReadAnswered bytes back
 unfolding readRecord readerRefusal notRead
 read-answered bytes back e =
     by-number (recordTests (heardBytes bytes)) (λ r. r .number) back (record { number = 0; value = valueIn bytes })
-    notRead bytes
+    notRead
     refl refl refl (λ n. refl) e
 
-pub write-answered : (v : Record) (back : Written) → back ≡ writeRecord v → WriteAnswered v back
+pub write-answered :
+    (v : Record) (back : Written) →
+    back ≡ writeRecord v →
+    AnsweredOnly (writerTests v) (back .number) back notWritten
 unfolding writeRecord writerRefusal
 write-answered v back e =
-    by-number (writerTests v) (λ w. w .number) back (record { number = 0; bytes = bytesOf v })
-    (λ n. record { number = n; bytes = zeroBytes }) v
+    by-number (writerTests v) (λ w. w .number) back (record { number = 0; bytes = bytesOf v }) notWritten
     refl refl refl (λ n. refl) e
 
 -- the function that writes and reads, and the one that reads and writes
 pub read-back-answered :
     (v : Record) (back : Reading) →
     back ≡ readBack v →
-    Answered (writerTests v) (back .number) back notRead v v
+    AnsweredOnly (writerTests v) (back .number) back notRead
 unfolding readBack notRead firstOf
 read-back-answered v back e =
-    by-number (writerTests v) (λ r. r .number) back (record { number = 0; value = v }) notRead v refl refl refl
-    (λ n. refl)
+    by-number (writerTests v) (λ r. r .number) back (record { number = 0; value = v }) notRead refl refl refl (λ n. refl)
     (e ∙ ⊎-elim (λ (y : keepsLayout v ≡ true). rw y) (λ (n : keepsLayout v ≡ false). rw n) (yes-or-no (keepsLayout v)))
 
 pub write-back-answered :
     (bytes : List ℕ) (back : Written) →
     back ≡ writeBack bytes →
-    Answered (recordTests (heardBytes bytes)) (back .number) back (λ n. record { number = n; bytes = zeroBytes }) bytes
-    bytes
+    AnsweredOnly (recordTests (heardBytes bytes)) (back .number) back notWritten
 unfolding writeBack readerRefusal
 write-back-answered bytes back e =
-    by-number (recordTests (heardBytes bytes)) (λ w. w .number) back (record { number = 0; bytes = bytes })
-    (λ n. record { number = n; bytes = zeroBytes })
-    bytes
+    by-number (recordTests (heardBytes bytes)) (λ w. w .number) back (record { number = 0; bytes = bytes }) notWritten
     refl refl refl (λ n. refl) e
 
 -- the number alone
 pub number-answered :
     (tests : List Test) (number : ℕ) →
-    rising tests ≡ true →
+    follow statedOrder tests ≡ true →
     numbered tests ≡ true →
     number ≡ firstOf tests →
     NumberAnswered tests number
 number-answered tests number order some e =
-    answered tests {Lent = Unit {0}} number number (λ n. n) tt tt order some e (λ m. refl) (λ m. refl)
+    answered tests number number (λ n. n) tt tt order some e (λ m. refl) (λ m. refl)
 
 -- ---- the label
 
@@ -192,11 +175,11 @@ sharers-found ram s cell numbers after back e f =
 pub cell-labelled :
     (ram : List ℕ) (s : Settings) (cell : ℕ) (back : CellLabel) →
     back ≡ cellLabel ram s cell →
-    Answered (cellTests ram s cell) (back .number) back (λ n. cellAnswer n []) ram ram
+    AnsweredOnly (cellTests ram s cell) (back .number) back (λ n. cellAnswer n [])
 unfolding cellLabel cellRefusal cellAnswer
 cell-labelled ram s cell back e =
     let told : back .number ≡ cellRefusal ram s cell = ap (λ (l : CellLabel). l .number) e in
-    answered (cellTests ram s cell) (back .number) back _ ram ram refl refl told
+    answered (cellTests ram s cell) (back .number) back _ tt tt refl refl told
     (λ m.
     let none : cellLabel ram s cell ≡ cellAnswer (cellRefusal ram s cell) [] =
     rw (ne-eqb (cellRefusal ram s cell) 0 (λ z. m (told ∙ z))) in
@@ -237,86 +220,3 @@ take-answered trace at back e =
           );
       none = λ h. e ∙ taken-none trace at h;
     }
-
--- ---- for callers in C and Rust
-
-pub exported-answered :
-    (e : Exported) →
-    e .number ≡ callNumber (e .settings) (e .heard) (e .before) →
-    e .after ≡ lentAfter (e .settings) (e .heard) (e .before) →
-    ExportedAnswered e
-unfolding callNumber refusalFor
-exported-answered e n f =
-    let refused : Lent =
-    lentOf (e .before .ram) (e .before .reply) (e .before .remembered)
-    (over (e .before .answer) (e .number ∷ replicate 8 0)) in
-    let left : (e .number ≡ 0 → ⊥) → e .after ≡ refused =
-    λ m. rw n (f ∙ message-refused (e .settings) (e .heard) (e .before) (λ z. m (n ∙ z))) in
-    answered (testsFor (e .settings) (e .heard) (stateIn (e .before))) (e .number) (e .after .answer) _ _ _ refl refl n
-    (λ m. ap (λ (l : Lent). l .answer) (left m))
-    (λ m. ap (λ (l : Lent). l .ram ∷ l .reply ∷ l .remembered ∷ []) (left m))
-
-pub exported-check :
-    (ram : List ℕ) (s : Settings) (back : ℕ) → back ≡ checkWord (checkArea ram s) →
-    CheckAnswered ram s (record { number = back / 65536; cell = back % 65536 })
-exported-check ram s back e =
-    check-answered ram s _
-    (λ i. record {
-      number = (ap (λ (k : ℕ). k / 65536) e ∙ upper-half ram s) i;
-      cell = (ap (λ (k : ℕ). k % 65536) e ∙ lower-half ram s) i;
-    })
-
-pub exported-read-answered :
-    (bytes value after : List ℕ) (back : ℕ) →
-    back ≡ readRecord bytes .number →
-    after ≡ over value (valueWords (readRecord bytes .value)) →
-    Answered (recordTests (heardBytes bytes)) back after (λ n. over value (replicate 37 0)) bytes bytes
-exported-read-answered bytes value after back e f =
-    answered (recordTests (heardBytes bytes)) back after _ bytes bytes refl refl (e ∙ sym (record-number bytes))
-    (λ m. f ∙ read-refused bytes value (λ z. m (e ∙ z)))
-    (λ m. refl)
-
-writer-number : (v : Record) → writeRecord v .number ≡ firstOf (writerTests v)
-unfolding writeRecord writerRefusal
-writer-number v =
-    let number = firstOf (writerTests v) in
-    ⊎-elim (λ z. rw (eq-eqb number 0 z) (sym z)) (λ m. rw (ne-eqb number 0 m)) (eq-or-ne number 0)
-
-pub exported-write-answered :
-    (value bytes after : List ℕ) (v : Record) (back : ℕ) →
-    back ≡ writeRecord v .number →
-    after ≡ over bytes (writeRecord v .bytes) →
-    Answered (writerTests v) back after (λ n. over bytes (replicate 80 0)) value value
-exported-write-answered value bytes after v back e f =
-    answered (writerTests v) back after _ value value refl refl (e ∙ writer-number v)
-    (λ m. f ∙ write-refused v bytes (λ z. m (e ∙ z)))
-    (λ m. refl)
-
-pub exported-cell-labelled :
-    (ram : List ℕ) (s : Settings) (cell number : ℕ) (listing after : List ℕ) →
-    number ≡ cellLabel ram s cell .number →
-    after ≡ over listing (listingWords (cellLabel ram s cell)) →
-    Answered (cellTests ram s cell) number after (λ n. over listing (replicate 179 0)) ram ram
-unfolding cellLabel cellAnswer cellRefusal
-exported-cell-labelled ram s cell number listing after e f =
-    answered (cellTests ram s cell) number after _ ram ram refl refl e
-    (λ m. f ∙ label-cell-refused ram s cell listing (λ z. m (e ∙ z)))
-    (λ m. refl)
-
-pub exported-area-labelled :
-    (ram : List ℕ) (s : Settings) (number : ℕ) (counts unsound pairs counts′ unsound′ pairs′ : List ℕ) →
-    number ≡ areaLabel ram s .number →
-    counts′ ≡ over counts (countWords (areaLabel ram s)) →
-    unsound′ ≡ over unsound (areaLabel ram s .unsound) →
-    pairs′ ≡ pairsInto ram s pairs →
-    Answered (groundTests ram s) number (counts′ ∷ unsound′ ∷ [])
-    (λ n. over counts (replicate 2 0) ∷ over unsound (replicate 90 0) ∷ [])
-    pairs
-    pairs′
-unfolding areaLabel areaAnswer groundRefusal
-exported-area-labelled ram s number counts unsound pairs counts′ unsound′ pairs′ e f g h =
-    answered (groundTests ram s) number (counts′ ∷ unsound′ ∷ []) _ pairs pairs′ refl refl e
-    (λ m.
-    let no : (areaLabel ram s .number ≡ 0 → ⊥) = λ z. m (e ∙ z) in
-    rw (f, g, counts-refused ram s counts no, unsound-refused ram s unsound no))
-    (λ m. h ∙ pairs-refused ram s pairs (λ z. m (e ∙ z)))

@@ -19,7 +19,9 @@ use Rattle.who_tables.proofs.Tables.{every-address}
 use Rattle.c_words.specs.Setup.{settingsFrom}
 use Rattle.c_who.specs.Origins.{LentTables, tablesIn}
 use Rattle.c_who.proofs.GoOn.{Room, after-again, still-room}
-use Rattle.demands.specs.Filled.{Parts, recordsTaken, Fill, filledPart, EntryAt, Ask, ExportedFill, exportedPart, ExportedEntry, ExportedAsk, SameQuestion, SameExportedQuestion}
+use Rattle.demands.specs.Entry.{Call}
+use Rattle.demands.specs.Functions.{ask, fill-tables, entry-at, c-who, c-who-fill, c-who-entry}
+use Rattle.demands.specs.Filled.{Parts, recordsTaken, filledPart, exportedPart, SameQuestion, SameExportedQuestion}
 
 -- ---- parts one after the other
 
@@ -40,7 +42,7 @@ one-part s s₁ hs ys n t t′ x told left same from =
     (eq-or-ne n 0)
 
 fills-filled :
-    (s : Settings) (x y : Tables) (fills : List Fill) →
+    (s : Settings) (x y : Tables) (fills : List (Call fill-tables)) →
     Parts s x (map filledPart fills) y →
     y ≡ filledWith s (recordsTaken (map filledPart fills)) x
 fills-filled s x y [] e = e ∙ sym (filled-none s x)
@@ -51,7 +53,7 @@ fills-filled s x y (c ∷ cs) k =
     (c .allowed .0) (c .allowed .1) (k .0) (k .1 .0)
 
 exported-filled :
-    (s : Settings) (x y : LentTables) (fills : List ExportedFill) →
+    (s : Settings) (x y : LentTables) (fills : List (Call c-who-fill)) →
     Room x →
     Parts s x (map exportedPart fills) y →
     tablesIn y ≡ filledWith s (recordsTaken (map exportedPart fills)) (tablesIn x)
@@ -76,7 +78,7 @@ same-answer :
     entryAt (t .numbers) (t .marks) a ≡ asked s a hs image .at .who
 same-answer s hs image t a good few e = rw e (every-address s hs image a good few)
 
-pub entry-is-answer : (fills : List Fill) (e : EntryAt) (q : Ask) → SameQuestion fills e q → e .back ≡ q .back
+pub entry-is-answer : (fills : List (Call fill-tables)) (e : Call entry-at) (q : Call ask) → SameQuestion fills e q → e .back ≡ q .back
 entry-is-answer fills e q k =
     let filled = fills-filled (k .settings) (blankTables (k .image)) (k .end) fills (k .filled) in
     let same =
@@ -94,7 +96,7 @@ entry-is-answer fills e q k =
     )
     same
 
-module _ (fills : List ExportedFill) (e : ExportedEntry) (q : ExportedAsk) (k : SameExportedQuestion fills e q) where
+module _ (fills : List (Call c-who-fill)) (e : Call c-who-entry) (q : Call c-who) (k : SameExportedQuestion fills e q) where
   same-who :
       entryAt (now (e .given .0)) (now (e .given .1 .0)) (e .given .1 .1 .0)
       ≡ asked (settingsFrom (now (q .given .1 .0))) (q .given .1 .1 .0) (heardIn (now (q .given .1 .1 .1 .0)))

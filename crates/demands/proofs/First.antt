@@ -8,27 +8,21 @@ use Rattle.words.specs.Refusal.{firstOf}
 use Rattle.layout.proofs.reader
 use Rattle.layout.proofs.writer
 use Rattle.layout.proofs.round_trip
-use Rattle.area.specs.Area.{groundTests, groundRefusal}
 use Rattle.layout_long.proofs.reader as long-reader
 use Rattle.layout_long.proofs.writer as long-writer
 use Rattle.layout_long.proofs.round_trip as long-trips
 use Rattle.layout_long.proofs.conversion
-use Rattle.message.proofs.long
-use Rattle.c_words_long.specs.LongValues.{longFrom}
-use Rattle.c_long.proofs.calls as long-calls
-use Rattle.c_long.proofs.from_long
-use Rattle.demands.specs.LongCalls.{fromLong, performLong, exportedLong}
-use Rattle.demands.proofs.Long.{perform-long, read-old-answered, long-read-back-answered, long-write-back-answered, read-long-answered, write-long-answered, longer-answered, shorter-answered, exported-read-long-answered, exported-write-long-answered, exported-longer-answered, exported-shorter-answered}
+use Rattle.area.specs.Area.{groundTests, groundRefusal}
 use Rattle.area.proofs.area
 use Rattle.label.proofs.one
 use Rattle.label.proofs.whole
 use Rattle.soundness.proofs.cell as described-cell
 use Rattle.soundness.proofs.stack as described-stack
-use Rattle.c_questions.proofs.descriptions
-use Rattle.demands.proofs.Described.{cell-described, stack-described, exported-cell-described, exported-stack-described}
 use Rattle.message.proofs.heard
 use Rattle.message.proofs.serve
+use Rattle.message.proofs.long
 use Rattle.trace.proofs.walk
+use Rattle.trace_view.proofs.view
 use Rattle.who.specs.Replay.{heardIn}
 use Rattle.who.specs.Tests.{whoTests, whoRefusal}
 use Rattle.who.proofs.tests
@@ -37,22 +31,16 @@ use Rattle.who_tables.proofs.table
 use Rattle.who_tables.proofs.tests as table-tests
 use Rattle.who_replay.proofs.question
 use Rattle.who_replay.proofs.fill
-use Rattle.trace_view.proofs.view
-use Rattle.c_words.specs.Setup.{settingsFrom}
-use Rattle.c_words_messages.specs.Values.{valueFrom}
-use Rattle.c_who.specs.Origins.{lentTablesOf}
-use Rattle.c_message_bytes.proofs.from_bytes
-use Rattle.c_message_values.proofs.from_value
-use Rattle.c_questions.proofs.calls
-use Rattle.c_who.proofs.origins
-use Rattle.demands.specs.Calls.{fromBytes, fromValue, performBytes, performValue, exportedBytes, exportedValue}
+use Rattle.demands.specs.Calls.{fromBytes, fromValue, fromLong, performBytes, performValue, performLong, performed-bytes, performed-value, performed-long}
 use Rattle.demands.specs.First.{Demand}
-use Rattle.demands.proofs.Answered.{message-answered, check-answered, read-answered, write-answered, read-back-answered, write-back-answered, number-answered, sharers-found, cell-labelled, area-labelled, take-answered, exported-answered, exported-check, exported-read-answered, exported-write-answered, exported-cell-labelled, exported-area-labelled}
-use Rattle.demands.proofs.Asked.{ask-answered, go-on-answered, fill-answered, entry-answered, exported-who-answered, exported-fill-answered, exported-entry-answered}
+use Rattle.demands.proofs.Entries.{entry}
+use Rattle.demands.proofs.Answered.{message-answered, check-answered, read-answered, write-answered, read-back-answered, write-back-answered, number-answered, sharers-found, cell-labelled, area-labelled, take-answered}
+use Rattle.demands.proofs.Long.{read-old-answered, long-read-back-answered, long-write-back-answered, read-long-answered, write-long-answered, longer-answered, shorter-answered}
+use Rattle.demands.proofs.Described.{cell-described, stack-described}
+use Rattle.demands.proofs.Asked.{ask-answered, go-on-answered, fill-answered, entry-answered}
 use Rattle.demands.proofs.Served.{served-meets}
-use Rattle.demands.proofs.Called.{perform-bytes, perform-value}
+use Rattle.demands.proofs.Called.{call-served}
 use Rattle.demands.proofs.Walks.{walks}
-use Rattle.demands.proofs.Control.{controller}
 
 -- what the three functions that only test answer
 ground-first : (ram : List ℕ) (s : Settings) → groundRefusal ram s ≡ firstOf (groundTests ram s)
@@ -73,381 +61,116 @@ pub first : Demand
 first =
     record {
       message-from-bytes =
-          record {
-            any = λ κs given. tt;
-            ends = serve.message_from_bytes.Met.met;
-            says = λ c. message-answered (fromBytes c) (c .allowed .0) (c .allowed .1);
-          };
+          entry (λ κs given. tt) serve.message_from_bytes.Met.met
+          (λ c. message-answered (fromBytes c) (c .allowed .0) (c .allowed .1));
       message-from-value =
-          record {
-            any = λ κs given. tt;
-            ends = serve.message_from_value.Met.met;
-            says = λ c. message-answered (fromValue c) (c .allowed .0) (c .allowed .1);
-          };
+          entry (λ κs given. tt) serve.message_from_value.Met.met
+          (λ c. message-answered (fromValue c) (c .allowed .0) (c .allowed .1));
       perform-bytes =
-          record {
-            any = λ κs given. tt;
-            ends = heard.perform_bytes.Met.met;
-            says = λ c. served-meets (performBytes c) (perform-bytes c) .first;
-          };
+          entry (λ κs given. tt) heard.perform_bytes.Met.met
+          (λ c. served-meets (performBytes c) (call-served (performed-bytes c)) .first);
       perform-value =
-          record {
-            any = λ κs given. tt;
-            ends = heard.perform_value.Met.met;
-            says = λ c. served-meets (performValue c) (perform-value c) .first;
-          };
+          entry (λ κs given. tt) heard.perform_value.Met.met
+          (λ c. served-meets (performValue c) (call-served (performed-value c)) .first);
       check-area =
-          record {
-            any = λ κs given. tt;
-            ends = area.check_area.Met.met;
-            says = λ c. check-answered (now (c .given .0)) (c .given .1 .0) (c .back) (c .allowed);
-          };
+          entry (λ κs given. tt) area.check_area.Met.met
+          (λ c. check-answered (now (c .given .0)) (c .given .1 .0) (c .back) (c .allowed));
       read =
-          record {
-            any = λ κs given. tt;
-            ends = reader.read.Met.met;
-            says = λ c. read-answered (now (c .given .0)) (c .back) (c .allowed);
-          };
+          entry (λ κs given. tt) reader.read.Met.met (λ c. read-answered (now (c .given .0)) (c .back) (c .allowed));
       write =
-          record {
-            any = λ κs given. tt;
-            ends = writer.write.Met.met;
-            says = λ c. write-answered (c .given .0) (c .back) (c .allowed);
-          };
+          entry (λ κs given. tt) writer.write.Met.met (λ c. write-answered (c .given .0) (c .back) (c .allowed));
       read-written =
-          record {
-            any = λ κs given. tt;
-            ends = round_trip.read_written.Met.met;
-            says = λ c. read-back-answered (c .given .0) (c .back) (c .allowed);
-          };
+          entry (λ κs given. tt) round_trip.read_written.Met.met
+          (λ c. read-back-answered (c .given .0) (c .back) (c .allowed));
       write-read =
-          record {
-            any = λ κs given. tt;
-            ends = round_trip.write_read.Met.met;
-            says = λ c. write-back-answered (now (c .given .0)) (c .back) (c .allowed);
-          };
+          entry (λ κs given. tt) round_trip.write_read.Met.met
+          (λ c. write-back-answered (now (c .given .0)) (c .back) (c .allowed));
       message-from-long =
-          record {
-            any = λ κs given. tt;
-            ends = long.message_from_long.Met.met;
-            says = λ c. message-answered (fromLong c) (c .allowed .0) (c .allowed .1);
-          };
+          entry (λ κs given. tt) long.message_from_long.Met.met
+          (λ c. message-answered (fromLong c) (c .allowed .0) (c .allowed .1));
       perform-long =
-          record {
-            any = λ κs given. tt;
-            ends = long.perform_long.Met.met;
-            says = λ c. served-meets (performLong c) (perform-long c) .first;
-          };
+          entry (λ κs given. tt) long.perform_long.Met.met
+          (λ c. served-meets (performLong c) (call-served (performed-long c)) .first);
       read-old =
-          record {
-            any = λ κs given. tt;
-            ends = long-reader.read_old.Met.met;
-            says = λ c. read-old-answered (now (c .given .0)) (c .back) (c .allowed);
-          };
+          entry (λ κs given. tt) long-reader.read_old.Met.met
+          (λ c. read-old-answered (now (c .given .0)) (c .back) (c .allowed));
       read-written-long =
-          record {
-            any = λ κs given. tt;
-            ends = long-trips.read_written_long.Met.met;
-            says = λ c. long-read-back-answered (c .given .0) (c .back) (c .allowed);
-          };
+          entry (λ κs given. tt) long-trips.read_written_long.Met.met
+          (λ c. long-read-back-answered (c .given .0) (c .back) (c .allowed));
       write-read-long =
-          record {
-            any = λ κs given. tt;
-            ends = long-trips.write_read_long.Met.met;
-            says = λ c. long-write-back-answered (now (c .given .0)) (c .back) (c .allowed);
-          };
+          entry (λ κs given. tt) long-trips.write_read_long.Met.met
+          (λ c. long-write-back-answered (now (c .given .0)) (c .back) (c .allowed));
       read-long =
-          record {
-            any = λ κs given. tt;
-            ends = long-reader.read_long.Met.met;
-            says = λ c. read-long-answered (now (c .given .0)) (c .back) (c .allowed);
-          };
+          entry (λ κs given. tt) long-reader.read_long.Met.met
+          (λ c. read-long-answered (now (c .given .0)) (c .back) (c .allowed));
       write-long =
-          record {
-            any = λ κs given. tt;
-            ends = long-writer.write_long.Met.met;
-            says = λ c. write-long-answered (c .given .0) (c .back) (c .allowed);
-          };
+          entry (λ κs given. tt) long-writer.write_long.Met.met
+          (λ c. write-long-answered (c .given .0) (c .back) (c .allowed));
       longer =
-          record {
-            any = λ κs given. tt;
-            ends = conversion.longer.Met.met;
-            says = λ c. longer-answered (now (c .given .0)) (c .back) (c .allowed);
-          };
+          entry (λ κs given. tt) conversion.longer.Met.met
+          (λ c. longer-answered (now (c .given .0)) (c .back) (c .allowed));
       shorter =
-          record {
-            any = λ κs given. tt;
-            ends = conversion.shorter.Met.met;
-            says = λ c. shorter-answered (now (c .given .0)) (c .back) (c .allowed);
-          };
-      exported-message-long =
-          record {
-            any = λ κs given. tt;
-            ends = from_long.solkverva_message_long.Met.met;
-            says = λ c. exported-answered (exportedLong c) (c .allowed .0) (c .allowed .1);
-          };
-      exported-read-long =
-          record {
-            any = λ κs given. tt;
-            ends = long-calls.solkverva_read_long.Met.met;
-            says =
-                λ c.
-                exported-read-long-answered (now (c .given .0)) (now (c .given .1 .0)) (c .left .1 .0) (c .back)
-                (c .allowed .0)
-                (c .allowed .1);
-          };
-      exported-write-long =
-          record {
-            any = λ κs given. tt;
-            ends = long-calls.solkverva_write_long.Met.met;
-            says =
-                λ c.
-                exported-write-long-answered (now (c .given .0)) (now (c .given .1 .0)) (c .left .1 .0)
-                (longFrom (now (c .given .0))) (c .back) (c .allowed .0) (c .allowed .1);
-          };
-      exported-longer =
-          record {
-            any = λ κs given. tt;
-            ends = long-calls.solkverva_longer.Met.met;
-            says =
-                λ c.
-                exported-longer-answered (now (c .given .0)) (now (c .given .1 .0)) (c .left .1 .0) (c .back)
-                (c .allowed .0)
-                (c .allowed .1);
-          };
-      exported-shorter =
-          record {
-            any = λ κs given. tt;
-            ends = long-calls.solkverva_shorter.Met.met;
-            says =
-                λ c.
-                exported-shorter-answered (now (c .given .0)) (now (c .given .1 .0)) (c .left .1 .0) (c .back)
-                (c .allowed .0)
-                (c .allowed .1);
-          };
+          entry (λ κs given. tt) conversion.shorter.Met.met
+          (λ c. shorter-answered (now (c .given .0)) (c .back) (c .allowed));
       label-cell =
-          record {
-            any = λ κs given. tt;
-            ends = one.label_cell.Met.met;
-            says = λ c. cell-labelled (now (c .given .0)) (c .given .1 .0) (c .given .1 .1 .0) (c .back) (c .allowed);
-          };
+          entry (λ κs given. tt) one.label_cell.Met.met
+          (λ c. cell-labelled (now (c .given .0)) (c .given .1 .0) (c .given .1 .1 .0) (c .back) (c .allowed));
       find-sharers =
-          record {
-            any = λ κs given. tt;
-            ends = one.find_sharers.Met.met;
-            says =
-                λ c.
-                sharers-found (now (c .given .0)) (c .given .1 .0) (c .given .1 .1 .0) (now (c .given .1 .1 .1 .0))
-                (c .left .1 .1 .1 .0) (c .back) (c .allowed .0) (c .allowed .1);
-          };
+          entry (λ κs given. tt) one.find_sharers.Met.met
+          (λ c.
+          sharers-found (now (c .given .0)) (c .given .1 .0) (c .given .1 .1 .0) (now (c .given .1 .1 .1 .0))
+          (c .left .1 .1 .1 .0) (c .back) (c .allowed .0) (c .allowed .1));
       label-area =
-          record {
-            any = λ κs given. tt;
-            ends = whole.label_area.Met.met;
-            says =
-                λ c.
-                area-labelled (now (c .given .0)) (c .given .1 .0) (now (c .given .1 .1 .0)) (c .left .1 .1 .0) (c .back)
-                (c .allowed .0)
-                (c .allowed .1);
-          };
+          entry (λ κs given. tt) whole.label_area.Met.met
+          (λ c.
+          area-labelled (now (c .given .0)) (c .given .1 .0) (now (c .given .1 .1 .0)) (c .left .1 .1 .0) (c .back)
+          (c .allowed .0)
+          (c .allowed .1));
       ground-refusal =
-          record {
-            any = λ κs given. tt;
-            ends = area.ground_refusal.Met.met;
-            says =
-                λ c.
-                number-answered (groundTests (now (c .given .0)) (c .given .1 .0)) (c .back) refl refl
-                (c .allowed ∙ ground-first (now (c .given .0)) (c .given .1 .0));
-          };
+          entry (λ κs given. tt) area.ground_refusal.Met.met
+          (λ c.
+          number-answered (groundTests (now (c .given .0)) (c .given .1 .0)) (c .back) refl refl
+          (c .allowed ∙ ground-first (now (c .given .0)) (c .given .1 .0)));
       who-refusal =
-          record {
-            any = λ κs given. tt;
-            ends = tests.who_refusal.Met.met;
-            says =
-                λ c.
-                number-answered (whoTests (c .given .0) (c .given .1 .0) (c .given .1 .1 .0)) (c .back) refl refl
-                (c .allowed ∙ who-first (c .given .0) (c .given .1 .0) (c .given .1 .1 .0));
-          };
+          entry (λ κs given. tt) tests.who_refusal.Met.met
+          (λ c.
+          number-answered (whoTests (c .given .0) (c .given .1 .0) (c .given .1 .1 .0)) (c .back) refl refl
+          (c .allowed ∙ who-first (c .given .0) (c .given .1 .0) (c .given .1 .1 .0)));
       fill-refusal =
-          record {
-            any = λ κs given. tt;
-            ends = table-tests.fill_refusal.Met.met;
-            says =
-                λ c.
-                number-answered
-                (fillTests (c .given .0) (c .given .1 .0) (c .given .1 .1 .0) (c .given .1 .1 .1 .0)) (c .back) refl refl
-                (c .allowed ∙ fill-first (c .given .0) (c .given .1 .0) (c .given .1 .1 .0) (c .given .1 .1 .1 .0));
-          };
+          entry (λ κs given. tt) table-tests.fill_refusal.Met.met
+          (λ c.
+          number-answered
+          (fillTests (c .given .0) (c .given .1 .0) (c .given .1 .1 .0) (c .given .1 .1 .1 .0)) (c .back) refl refl
+          (c .allowed ∙ fill-first (c .given .0) (c .given .1 .0) (c .given .1 .1 .0) (c .given .1 .1 .1 .0)));
       describe-cell =
-          record {
-            any = λ κs given. tt;
-            ends = described-cell.describe_cell.Met.met;
-            says = λ c. cell-described (now (c .given .0)) (c .given .1 .0) (c .given .1 .1 .0) (c .back) (c .allowed);
-          };
+          entry (λ κs given. tt) described-cell.describe_cell.Met.met
+          (λ c. cell-described (now (c .given .0)) (c .given .1 .0) (c .given .1 .1 .0) (c .back) (c .allowed));
       describe-stack =
-          record {
-            any = λ κs given. tt;
-            ends = described-stack.describe_stack.Met.met;
-            says = λ c. stack-described (now (c .given .0)) (c .given .1 .0) (c .back) (c .allowed);
-          };
-      exported-describe-cell =
-          record {
-            any = λ κs given. tt;
-            ends = descriptions.solkverva_describe_cell.Met.met;
-            says =
-                λ c.
-                exported-cell-described (now (c .given .0)) (settingsFrom (now (c .given .1 .0))) (c .given .1 .1 .0)
-                (c .back) (now (c .given .1 .1 .1 .0)) (c .left .1 .1 .1 .0) (c .allowed .0) (c .allowed .1);
-          };
-      exported-describe-stack =
-          record {
-            any = λ κs given. tt;
-            ends = descriptions.solkverva_describe_stack.Met.met;
-            says =
-                λ c.
-                exported-stack-described (now (c .given .0)) (settingsFrom (now (c .given .1 .0))) (c .back)
-                (now (c .given .1 .1 .0)) (c .left .1 .1 .0) (c .allowed .0) (c .allowed .1);
-          };
+          entry (λ κs given. tt) described-stack.describe_stack.Met.met
+          (λ c. stack-described (now (c .given .0)) (c .given .1 .0) (c .back) (c .allowed));
       walk =
-          record {
-            any = λ κs given. tt;
-            ends = walk.walk.Met.met;
-            says = walks;
-          };
+          entry (λ κs given. tt) walk.walk.Met.met walks;
       view =
-          record {
-            any = λ κs given. tt;
-            ends = view.take_at.Met.met;
-            says = λ c. take-answered (now (c .given .0)) (c .given .1 .0) (c .back) (c .allowed);
-          };
-      exported-message =
-          record {
-            any = λ κs given. tt;
-            ends = from_bytes.solkverva_message.Met.met;
-            says = λ c. exported-answered (exportedBytes c) (c .allowed .0) (c .allowed .1);
-          };
-      exported-message-value =
-          record {
-            any = λ κs given. tt;
-            ends = from_value.solkverva_message_value.Met.met;
-            says = λ c. exported-answered (exportedValue c) (c .allowed .0) (c .allowed .1);
-          };
-      exported-check-area =
-          record {
-            any = λ κs given. tt;
-            ends = calls.solkverva_check_area.Met.met;
-            says = λ c. exported-check (now (c .given .0)) (settingsFrom (now (c .given .1 .0))) (c .back) (c .allowed);
-          };
-      exported-read =
-          record {
-            any = λ κs given. tt;
-            ends = calls.solkverva_read.Met.met;
-            says =
-                λ c.
-                exported-read-answered (now (c .given .0)) (now (c .given .1 .0)) (c .left .1 .0) (c .back)
-                (c .allowed .0)
-                (c .allowed .1);
-          };
-      exported-write =
-          record {
-            any = λ κs given. tt;
-            ends = calls.solkverva_write.Met.met;
-            says =
-                λ c.
-                exported-write-answered (now (c .given .0)) (now (c .given .1 .0)) (c .left .1 .0)
-                (valueFrom (now (c .given .0))) (c .back) (c .allowed .0) (c .allowed .1);
-          };
+          entry (λ κs given. tt) view.take_at.Met.met
+          (λ c. take-answered (now (c .given .0)) (c .given .1 .0) (c .back) (c .allowed));
       ask =
-          record {
-            any = λ κs given. tt;
-            ends = question.ask.Met.met;
-            says =
-                λ c.
-                ask-answered (c .given .1 .0) (c .given .1 .1 .0) (heardIn (now (c .given .1 .1 .1 .0)))
-                (now (c .given .0)) (c .back) (c .left .0) (c .allowed .0) (c .allowed .1);
-          };
+          entry (λ κs given. tt) question.ask.Met.met
+          (λ c.
+          ask-answered (c .given .1 .0) (c .given .1 .1 .0) (heardIn (now (c .given .1 .1 .1 .0)))
+          (now (c .given .0)) (c .back) (c .left .0) (c .allowed .0) (c .allowed .1));
       go-on =
-          record {
-            any = λ κs given. tt;
-            ends = question.go_on.Met.met;
-            says =
-                λ c.
-                go-on-answered (c .given .1 .0) (c .given .1 .1 .0) (heardIn (now (c .given .1 .1 .1 .1 .0)))
-                (now (c .given .0)) (c .given .1 .1 .1 .0) (c .back) (c .left .0) (c .allowed);
-          };
+          entry (λ κs given. tt) question.go_on.Met.met
+          (λ c.
+          go-on-answered (c .given .1 .0) (c .given .1 .1 .0) (heardIn (now (c .given .1 .1 .1 .1 .0)))
+          (now (c .given .0)) (c .given .1 .1 .1 .0) (c .back) (c .left .0) (c .allowed));
       fill =
-          record {
-            any = λ κs given. tt;
-            ends = fill.fill.Met.met;
-            says =
-                λ c.
-                fill-answered (c .given .1 .1 .1 .0) (heardIn (now (c .given .1 .1 .1 .1 .1 .0))) (now (c .given .0))
-                (now (c .given .1 .0)) (now (c .given .1 .1 .0)) (c .left .0) (c .left .1 .0) (c .left .1 .1 .0)
-                (c .given .1 .1 .1 .1 .0) (c .back) (c .allowed .0) (c .allowed .1);
-          };
+          entry (λ κs given. tt) fill.fill.Met.met
+          (λ c.
+          fill-answered (c .given .1 .1 .1 .0) (heardIn (now (c .given .1 .1 .1 .1 .1 .0))) (now (c .given .0))
+          (now (c .given .1 .0)) (now (c .given .1 .1 .0)) (c .left .0) (c .left .1 .0) (c .left .1 .1 .0)
+          (c .given .1 .1 .1 .1 .0) (c .back) (c .allowed .0) (c .allowed .1));
       entry-at =
-          record {
-            any = λ κs given. tt;
-            ends = table.entry_at.Met.met;
-            says =
-                λ c.
-                entry-answered (now (c .given .0)) (now (c .given .1 .0)) (c .given .1 .1 .0) (c .back) (c .allowed);
-          };
-      exported-label-cell =
-          record {
-            any = λ κs given. tt;
-            ends = calls.solkverva_label_cell.Met.met;
-            says =
-                λ c.
-                exported-cell-labelled (now (c .given .0)) (settingsFrom (now (c .given .1 .0))) (c .given .1 .1 .0)
-                (c .back) (now (c .given .1 .1 .1 .0)) (c .left .1 .1 .1 .0) (c .allowed .0) (c .allowed .1);
-          };
-      exported-label-area =
-          record {
-            any = λ κs given. tt;
-            ends = calls.solkverva_label_area.Met.met;
-            says =
-                λ c.
-                exported-area-labelled (now (c .given .0)) (settingsFrom (now (c .given .1 .0))) (c .back)
-                (now (c .given .1 .1 .0)) (now (c .given .1 .1 .1 .0)) (now (c .given .1 .1 .1 .1 .0))
-                (c .left .1 .1 .0) (c .left .1 .1 .1 .0) (c .left .1 .1 .1 .1 .0)
-                (c .allowed .0) (c .allowed .1 .0) (c .allowed .1 .1 .0) (c .allowed .1 .1 .1);
-          };
-      exported-who =
-          record {
-            any = λ κs given. tt;
-            ends = origins.solkverva_who.Met.met;
-            says =
-                λ c.
-                exported-who-answered (settingsFrom (now (c .given .1 .0))) (c .given .1 .1 .0)
-                (heardIn (now (c .given .1 .1 .1 .0))) (now (c .given .0)) (c .left .0) (c .back)
-                (now (c .given .1 .1 .1 .1 .0)) (now (c .given .1 .1 .1 .1 .1 .0))
-                (c .left .1 .1 .1 .1 .0) (c .left .1 .1 .1 .1 .1 .0)
-                (c .allowed .0) (c .allowed .1 .0) (c .allowed .1 .1 .0) (c .allowed .1 .1 .1);
-          };
-      exported-who-fill =
-          record {
-            any = λ κs given. tt;
-            ends = origins.solkverva_who_fill.Met.met;
-            says =
-                λ c.
-                exported-fill-answered (settingsFrom (now (c .given .1 .1 .1 .0)))
-                (heardIn (now (c .given .1 .1 .1 .1 .1 .1 .0)))
-                (lentTablesOf (now (c .given .0)) (now (c .given .1 .0)) (now (c .given .1 .1 .0))
-                (now (c .given .1 .1 .1 .1 .0))
-                (now (c .given .1 .1 .1 .1 .1 .0)))
-                _ (c .back) (c .allowed .0) (c .allowed .1);
-          };
-      exported-who-entry =
-          record {
-            any = λ κs given. tt;
-            ends = origins.solkverva_who_entry.Met.met;
-            says =
-                λ c.
-                exported-entry-answered (now (c .given .0)) (now (c .given .1 .0)) (c .given .1 .1 .0) (c .back)
-                (now (c .given .1 .1 .1 .0)) (now (c .given .1 .1 .1 .1 .0)) (c .left .1 .1 .1 .0)
-                (c .left .1 .1 .1 .1 .0)
-                (c .allowed .0) (c .allowed .1 .0) (c .allowed .1 .1);
-          };
-      controller = controller;
+          entry (λ κs given. tt) table.entry_at.Met.met
+          (λ c.
+          entry-answered (now (c .given .0)) (now (c .given .1 .0)) (c .given .1 .1 .0) (c .back) (c .allowed));
     }

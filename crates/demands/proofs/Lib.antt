@@ -1,3 +1,4 @@
+pub mod Entries
 pub mod Answered
 pub mod Asked
 pub mod Described
@@ -12,8 +13,10 @@ pub mod Filled
 pub mod Room
 pub mod Seen
 pub mod Handed
-pub mod Control
+pub mod Exports
 pub mod First
+pub mod Exported
+pub mod Control
 pub mod Second
 pub mod Third
 pub mod Empty

@@ -4,13 +4,9 @@ use native.Mathlib.Omega.{arith}
 use mathlib.Core.Path.{_≡_, refl, sym, ap, _∙_}
 use mathlib.Core.Bool.{true}
 use mathlib.Core.List.{List}
-use lib.ListN.{length, getD, replicate}
+use lib.ListN.{length, getD}
 use lib.Seq.{getD-take}
-use Rattle.words.specs.declared.remembered.Remembered.{Remembered}
-use Rattle.words.specs.Refusal.{Test}
-use Rattle.records.specs.Value.{zeroValue}
 use Rattle.cells.specs.Stack.{stackPointer}
-use Rattle.plan.specs.declared.plan.Plan.{Plan}
 use Rattle.writes.specs.Writes.{descriptorOf}
 use Rattle.layout.specs.declared.reader.Reading.{Reading}
 use Rattle.layout.specs.declared.writer.Written.{Written}
@@ -18,177 +14,79 @@ use Rattle.layout.specs.Layout.{wordAt, valueIn, readerRefusal, notRead}
 use Rattle.layout_long.specs.declared.value.LongRecord.{LongRecord}
 use Rattle.layout_long.specs.declared.reader.LongReading.{LongReading}
 use Rattle.layout_long.specs.declared.writer.LongWritten.{LongWritten}
-use Rattle.layout_long.specs.Long.{oldPart, endZero, longIn, longTests, longRefusal, readOld, zeroLong, notReadLong, readLong}
+use Rattle.layout_long.specs.Long.{oldPart, endZero, longIn, longTests, longRefusal, readOld, notReadLong, readLong}
 use Rattle.layout_long.specs.WritingLong.{withZeros, longBytes, longWriterTests, longWriterRefusal, notLong, writeLong}
 use Rattle.layout_long.specs.RoundTrip.{longReadBack, longWriteBack}
 use Rattle.layout_long.specs.Conversion.{longerOf, shorterTests, shorterRefusal, notShort, shorterOf}
 use Rattle.layout_long.proofs.Cases.{long-number, long-taken, long-written}
 use Rattle.layout_long.proofs.Undone.{longer-gives, shorter-allows, there-and-back, back-and-there}
 use Rattle.message.specs.Heard.{Heard, heardBytes, heardLong}
-use Rattle.message.specs.Tests.{recordTests, refusalFor}
-use Rattle.message.specs.declared.perform.Performed.the-variants.{Done}
-use Rattle.message.specs.Performed.{performedOf, answerIn, rememberedIn}
-use Rattle.message.proofs.Performing.{told, performed-done}
+use Rattle.message.specs.Tests.{recordTests}
 use Rattle.message.specs.Message.{answerOf, step}
 use Rattle.message.proofs.FromLong.{heard-as-old}
-use Rattle.c_words.specs.Over.{over}
-use Rattle.c_words_messages.specs.Values.{valueWords}
-use Rattle.c_words_long.specs.LongValues.{longWords}
 use Rattle.demands.specs.Calls.{Message}
-use Rattle.demands.specs.Answered.{Answered}
-use Rattle.demands.specs.Meets.{planned, deed, Worked}
-use Rattle.demands.specs.LongCalls.{PerformLong, performLong}
+use Rattle.demands.specs.Meets.{Worked}
+use Rattle.demands.specs.First.{AnsweredOnly}
 use Rattle.demands.proofs.Answered.{by-number}
-use Rattle.demands.proofs.Served.{Served}
-
--- ---- what was performed
-
-pub perform-long : (c : PerformLong) → Served (performLong c)
-perform-long c =
-    let m = performLong c in
-    let t =
-    told (m .settings) (m .heard) (m .before .remembered) (m .before .ram) (m .before .reply) (c .back) (c .left .0)
-    (c .left .1 .0) (c .allowed)
-    (record { answer = answerIn (c .back); remembered = rememberedIn (m .before .remembered) (c .back) })
-    refl in
-    record { answer = t .0; after = t .1 }
-
-pub plan-long : (c : PerformLong) (p : Plan) → c .back ≡ Done p → p ≡ planned (performLong c)
-unfolding performedOf
-plan-long c p e =
-    let n = performLong c in
-    performed-done (refusalFor (n .settings) (n .heard) (n .before)) (planned n) p (sym e ∙ c .allowed .0) .plan
 
 -- ---- demand 1
 
 pub read-old-answered :
     (bytes : List ℕ) (back : Reading) → back ≡ readOld bytes →
-    Answered (longTests bytes) (back .number) back notRead bytes bytes
+    AnsweredOnly (longTests bytes) (back .number) back notRead
 unfolding readOld longRefusal notRead
 read-old-answered bytes back e =
     by-number (longTests bytes) (λ r. r .number) back (record { number = 0; value = valueIn (oldPart bytes) }) notRead
-    bytes
     refl refl refl (λ n. refl) e
 
 pub long-read-back-answered :
     (v : LongRecord) (back : LongReading) → back ≡ longReadBack v →
-    Answered (longWriterTests v) (back .number) back notReadLong v v
+    AnsweredOnly (longWriterTests v) (back .number) back notReadLong
 unfolding longReadBack longWriterRefusal notReadLong
 long-read-back-answered v back e =
-    by-number (longWriterTests v) (λ r. r .number) back (record { number = 0; value = v }) notReadLong v
+    by-number (longWriterTests v) (λ r. r .number) back (record { number = 0; value = v }) notReadLong
     refl refl refl (λ n. refl) e
 
 pub long-write-back-answered :
     (bytes : List ℕ) (back : LongWritten) → back ≡ longWriteBack bytes →
-    Answered (longTests bytes) (back .number) back notLong bytes bytes
+    AnsweredOnly (longTests bytes) (back .number) back notLong
 unfolding longWriteBack longRefusal notLong
 long-write-back-answered bytes back e =
-    by-number (longTests bytes) (λ w. w .number) back (record { number = 0; bytes = bytes }) notLong bytes
+    by-number (longTests bytes) (λ w. w .number) back (record { number = 0; bytes = bytes }) notLong
     refl refl refl (λ n. refl) e
 
 pub read-long-answered :
     (bytes : List ℕ) (back : LongReading) → back ≡ readLong bytes →
-    Answered (longTests bytes) (back .number) back notReadLong bytes bytes
+    AnsweredOnly (longTests bytes) (back .number) back notReadLong
 unfolding readLong longRefusal notReadLong
 read-long-answered bytes back e =
-    by-number (longTests bytes) (λ r. r .number) back (record { number = 0; value = longIn bytes }) notReadLong bytes
+    by-number (longTests bytes) (λ r. r .number) back (record { number = 0; value = longIn bytes }) notReadLong
     refl refl refl (λ n. refl) e
 
 pub write-long-answered :
     (v : LongRecord) (back : LongWritten) → back ≡ writeLong v →
-    Answered (longWriterTests v) (back .number) back notLong v v
+    AnsweredOnly (longWriterTests v) (back .number) back notLong
 unfolding writeLong longWriterRefusal notLong
 write-long-answered v back e =
-    by-number (longWriterTests v) (λ w. w .number) back (record { number = 0; bytes = longBytes v }) notLong v
+    by-number (longWriterTests v) (λ w. w .number) back (record { number = 0; bytes = longBytes v }) notLong
     refl refl refl (λ n. refl) e
 
 pub longer-answered :
     (bytes : List ℕ) (back : LongWritten) → back ≡ longerOf bytes →
-    Answered (recordTests (heardBytes bytes)) (back .number) back notLong bytes bytes
+    AnsweredOnly (recordTests (heardBytes bytes)) (back .number) back notLong
 unfolding longerOf readerRefusal notLong
 longer-answered bytes back e =
     by-number (recordTests (heardBytes bytes)) (λ w. w .number) back (record { number = 0; bytes = withZeros bytes })
-    notLong bytes
+    notLong
     refl refl refl (λ n. refl) e
 
 pub shorter-answered :
     (bytes : List ℕ) (back : Written) → back ≡ shorterOf bytes →
-    Answered (shorterTests bytes) (back .number) back notShort bytes bytes
+    AnsweredOnly (shorterTests bytes) (back .number) back notShort
 unfolding shorterOf shorterRefusal notShort
 shorter-answered bytes back e =
-    by-number (shorterTests bytes) (λ w. w .number) back (record { number = 0; bytes = oldPart bytes }) notShort bytes
+    by-number (shorterTests bytes) (λ w. w .number) back (record { number = 0; bytes = oldPart bytes }) notShort
     refl refl refl (λ n. refl) e
-
--- what an exported function gives: the function's answer, put over what is lent
-over-answered :
-    (tests : List Test) {Back Lent : Type 0} (numberOf : Back → ℕ) (put : Back → List ℕ) (answer : Back)
-    (refusal : ℕ → Back) (lent : Lent) (number : ℕ) (after : List ℕ) →
-    Answered tests (numberOf answer) answer refusal lent lent →
-    number ≡ numberOf answer →
-    after ≡ put answer →
-    Answered tests number after (λ n. put (refusal n)) lent lent
-over-answered tests numberOf put answer refusal lent number after a e f =
-    rw (e, f)
-    (record {
-      order = a .order;
-      done = a .done;
-      refused = a .refused;
-      zero = λ m. ap put (a .zero m);
-      kept = a .kept;
-    })
-
-pub exported-read-long-answered :
-    (bytes value after : List ℕ) (back : ℕ) →
-    back ≡ readLong bytes .number →
-    after ≡ over value (longWords (readLong bytes .value)) →
-    Answered (longTests bytes) back after (λ n. over value (replicate 39 0)) bytes bytes
-unfolding notReadLong zeroLong zeroValue longWords valueWords
-exported-read-long-answered bytes value after back e f =
-    let put : LongReading → List ℕ = λ r. over value (longWords (r .value)) in
-    over-answered (longTests bytes) (λ r. r .number) put (readLong bytes) notReadLong bytes back after
-    (read-long-answered bytes (readLong bytes) refl)
-    e
-    f
-
-pub exported-write-long-answered :
-    (value bytes after : List ℕ) (v : LongRecord) (back : ℕ) →
-    back ≡ writeLong v .number →
-    after ≡ over bytes (writeLong v .bytes) →
-    Answered (longWriterTests v) back after (λ n. over bytes (replicate 96 0)) value value
-unfolding notLong
-exported-write-long-answered value bytes after v back e f =
-    let put : LongWritten → List ℕ = λ w. over bytes (w .bytes) in
-    let a = write-long-answered v (writeLong v) refl in
-    over-answered (longWriterTests v) (λ w. w .number) put (writeLong v) notLong value back after
-    (record { order = a .order; done = a .done; refused = a .refused; zero = a .zero; kept = λ m. refl })
-    e
-    f
-
-pub exported-longer-answered :
-    (old bytes after : List ℕ) (back : ℕ) →
-    back ≡ longerOf old .number →
-    after ≡ over bytes (longerOf old .bytes) →
-    Answered (recordTests (heardBytes old)) back after (λ n. over bytes (replicate 96 0)) old old
-unfolding notLong
-exported-longer-answered old bytes after back e f =
-    let put : LongWritten → List ℕ = λ w. over bytes (w .bytes) in
-    over-answered (recordTests (heardBytes old)) (λ w. w .number) put (longerOf old) notLong old back after
-    (longer-answered old (longerOf old) refl)
-    e
-    f
-
-pub exported-shorter-answered :
-    (long bytes after : List ℕ) (back : ℕ) →
-    back ≡ shorterOf long .number →
-    after ≡ over bytes (shorterOf long .bytes) →
-    Answered (shorterTests long) back after (λ n. over bytes (replicate 80 0)) long long
-unfolding notShort
-exported-shorter-answered long bytes after back e f =
-    let put : Written → List ℕ = λ w. over bytes (w .bytes) in
-    over-answered (shorterTests long) (λ w. w .number) put (shorterOf long) notShort long back after
-    (shorter-answered long (shorterOf long) refl)
-    e
-    f
 
 -- ---- demand 2
 

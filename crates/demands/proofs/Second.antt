@@ -1,57 +1,25 @@
 -- Demand 2, proved.
-use mathlib.Core.Path.{_≡_, refl, sym, _∙_}
+use mathlib.Core.Path.{refl}
 use denote.Ref.{now}
 use Rattle.message.proofs.Edges.{edges}
-use Rattle.message.proofs.Refusals.{number-told}
-use Rattle.c_words_messages.specs.Call.{stateIn, callNumber, lentAfter}
-use Rattle.demands.specs.Calls.{fromBytes, fromValue, performBytes, performValue, Exported, exportedBytes, exportedValue}
-use Rattle.demands.specs.Second.{ExportedWorked, Demand}
-use Rattle.demands.specs.LongCalls.{fromLong, performLong, exportedLong}
-use Rattle.demands.proofs.Worked.{stepped, message-worked}
-use Rattle.demands.proofs.Served.{served-meets, meets}
-use Rattle.demands.proofs.Called.{perform-bytes, perform-value, plan-bytes, plan-value}
+use Rattle.demands.specs.Calls.{fromBytes, fromLong, shows}
+use Rattle.demands.specs.Second.{Demand}
+use Rattle.demands.proofs.Worked.{message-worked}
+use Rattle.demands.proofs.Served.{served-meets}
+use Rattle.demands.proofs.Called.{performed-plan, call-served}
 use Rattle.demands.proofs.Walks.{walks}
 use Rattle.demands.proofs.Filled.{entry-is-answer, exported-entry-is-answer}
 use Rattle.demands.proofs.Back.{gives-value, gives-bytes, takes-value, back-read, back-written}
-use Rattle.demands.proofs.Long.{perform-long, plan-long, gives-long, gives-long-bytes, gives-longer, gives-shorter, goes-back, goes-on, same-message, same-heard, lower-half}
-
-exported-worked :
-    (e : Exported) →
-    e .number ≡ callNumber (e .settings) (e .heard) (e .before) →
-    e .after ≡ lentAfter (e .settings) (e .heard) (e .before) →
-    ExportedWorked e
-unfolding callNumber lentAfter
-exported-worked e n f =
-    let m = stepped (e .settings) (e .heard) (stateIn (e .before)) in
-    record {
-      message = m;
-      shown =
-          record {
-            settings = refl;
-            heard = refl;
-            before = refl;
-            meets = meets (e .settings) (e .heard) (stateIn (e .before));
-            number = n ∙ sym (number-told (e .settings) (e .heard) (stateIn (e .before)));
-            after = f;
-          };
-    }
+use Rattle.demands.proofs.Long.{gives-long, gives-long-bytes, gives-longer, gives-shorter, goes-back, goes-on, same-message, same-heard, lower-half}
 
 pub second : Demand
 second =
     record {
-      message-from-bytes = λ c. message-worked (fromBytes c) (c .allowed .0) (c .allowed .1);
-      message-from-value = λ c. message-worked (fromValue c) (c .allowed .0) (c .allowed .1);
-      perform-bytes = λ c. served-meets (performBytes c) (perform-bytes c) .second;
-      perform-value = λ c. served-meets (performValue c) (perform-value c) .second;
-      plan-bytes = plan-bytes;
-      plan-value = plan-value;
+      message = λ c. served-meets (shows c) (call-served c) .second;
+      plan-bytes = λ c. performed-plan _ _ _ (c .back) (c .allowed .0);
+      plan-value = λ c. performed-plan _ _ _ (c .back) (c .allowed .0);
+      plan-long = λ c. performed-plan _ _ _ (c .back) (c .allowed .0);
       walk = walks;
-      exported-message = λ c. exported-worked (exportedBytes c) (c .allowed .0) (c .allowed .1);
-      exported-message-value = λ c. exported-worked (exportedValue c) (c .allowed .0) (c .allowed .1);
-      message-from-long = λ c. message-worked (fromLong c) (c .allowed .0) (c .allowed .1);
-      perform-long = λ c. served-meets (performLong c) (perform-long c) .second;
-      plan-long = plan-long;
-      exported-message-long = λ c. exported-worked (exportedLong c) (c .allowed .0) (c .allowed .1);
       same-as-old =
           λ c d h e same s x.
           same-message (fromLong c) (fromBytes d) (c .allowed .0) (c .allowed .1) (d .allowed .0) (d .allowed .1) s
@@ -80,24 +48,6 @@ second =
           λ c d. goes-back (now (c .given .0)) (now (d .given .0)) (c .back) (d .back) (c .allowed) (d .allowed);
       back-and-there =
           λ c d. goes-on (now (c .given .0)) (now (d .given .0)) (c .back) (d .back) (c .allowed) (d .allowed);
-      exported-read-long =
-          λ c r e.
-          (c .allowed .0 ∙ rw (e, ← (r .allowed)), c .allowed .1 ∙ rw (e, ← (r .allowed)));
-      exported-write-long =
-          λ c w e.
-          (c .allowed .0 ∙ rw (e, ← (w .allowed)), c .allowed .1 ∙ rw (e, ← (w .allowed)));
-      exported-longer =
-          λ c w e.
-          (c .allowed .0 ∙ rw (e, ← (w .allowed)), c .allowed .1 ∙ rw (e, ← (w .allowed)));
-      exported-shorter =
-          λ c w e.
-          (c .allowed .0 ∙ rw (e, ← (w .allowed)), c .allowed .1 ∙ rw (e, ← (w .allowed)));
-      exported-read =
-          λ c r e.
-          (c .allowed .0 ∙ rw (e, ← (r .allowed)), c .allowed .1 ∙ rw (e, ← (r .allowed)));
-      exported-write =
-          λ c w e.
-          (c .allowed .0 ∙ rw (e, ← (w .allowed)), c .allowed .1 ∙ rw (e, ← (w .allowed)));
       every-address = entry-is-answer;
       exported-every-address = exported-entry-is-answer;
     }

@@ -2,7 +2,6 @@
 -- the new order keeps.
 use Prim.Native.Nat.{ℕ, _≤_}
 use mathlib.Core.Path.{_≡_, refl, sym, ap, _∙_}
-use mathlib.Core.Logic.{inl, inr}
 use mathlib.Core.Bool.{true}
 use mathlib.Core.List.{List, [], _∷_, map}
 use lib.ListN.{length}
@@ -10,15 +9,16 @@ use Rattle.words.specs.declared.settings.Settings.{Settings}
 use Rattle.memory.specs.State.{State}
 use Rattle.message.specs.Heard.{Heard}
 use Rattle.message.specs.Run.{run, effects}
+use Rattle.c_words.specs.Setup.{rememberedLength}
 use Rattle.c_words_messages.specs.Call.{Lent, stateIn}
 use Rattle.exchange.specs.Order.{exchangeAll}
 use Rattle.exchange.specs.Exchanged.{asked}
 use Rattle.exchange.specs.After.{keptAfter, stackAfter, rememberedAfter, repliedAll, repliedAfter}
 use Rattle.exchange.proofs.Theorem.{exchange, asked-room}
-use Rattle.demands.specs.Calls.{Message, MessageCall, shows, Walked, Exported}
+use Rattle.demands.specs.Calls.{Message, MessageCall, shows, CMessage, Walked}
 use Rattle.demands.specs.Meets.{Meets}
 use Rattle.demands.specs.Walks.{Chain, Each, heardOf, Walks}
-use Rattle.demands.specs.Exported.{AllShown, heardBy, HandedWords}
+use Rattle.demands.specs.Handed.{shownBy, AllExported, heardBy, HandedWords}
 use Rattle.demands.specs.Third.{allSeen, Roomy, Asked, Exchanged, Demand}
 use Rattle.demands.proofs.Served.{Served, served}
 use Rattle.demands.proofs.Called.{call-served}
@@ -96,27 +96,28 @@ walked c d u v places e f a r =
     })
 
 exported :
-    (s : Settings) (l k j : Lent) (es fs : List Exported) (old new : List Message) (places : List ℕ) →
-    2 ≤ length (l .remembered) →
-    AllShown es old →
-    AllShown fs new →
+    (s : Settings) (l k j : Lent) (es fs : List CMessage) (places : List ℕ) →
+    rememberedLength ≤ length (l .remembered) →
+    AllExported es →
+    AllExported fs →
     asked s (stateIn l) (heardBy es) places ≡ true →
     heardBy fs ≡ exchangeAll places (heardBy es) →
-    Each Roomy old × Each Roomy new →
+    Each Roomy (map shownBy es) × Each Roomy (map shownBy fs) →
     HandedWords s l es k →
     HandedWords s l fs j →
-    Exchanged s (stateIn l) old new (stateIn k) (stateIn j) places
-exported s l k j es fs old new places h a b e f room c d =
-    let first = heard-shown es old a in
-    let last = heard-shown fs new b in
-    exchanged s (stateIn l) (stateIn k) (stateIn j) old new places (all-served old (all-meet es old a))
-    (all-served new (all-meet fs new b))
+    Exchanged s (stateIn l) (map shownBy es) (map shownBy fs) (stateIn k) (stateIn j) places
+exported s l k j es fs places h a b e f room c d =
+    let first = heard-shown es in
+    let last = heard-shown fs in
+    exchanged s (stateIn l) (stateIn k) (stateIn j) (map shownBy es) (map shownBy fs) places
+    (all-served (map shownBy es) (all-meet es a))
+    (all-served (map shownBy fs) (all-meet fs b))
     (record {
       asked = rw (← first) e;
       reordered = sym last ∙ f ∙ ap (λ (hs : List Heard). exchangeAll places hs) first;
       room = room;
-      from-old = handed-words s l es k old h a c;
-      from-new = handed-words s l fs j new h b d;
+      from-old = handed-words s l es k h a c;
+      from-new = handed-words s l fs j h b d;
     })
 
 pub third : Demand

@@ -14,7 +14,9 @@ use Rattle.text.specs.Line.{lineOf}
 use Rattle.trace.specs.Walk as T
 use Rattle.trace.proofs.Walks.{walk-number}
 use Rattle.trace.specs.declared.walk.Walked.{Walked as Back}
-use Rattle.demands.specs.Calls.{Message, Walk, walked}
+use Rattle.demands.specs.Entry.{Call}
+use Rattle.demands.specs.Functions.{walk-trace}
+use Rattle.demands.specs.Calls.{Message, walked}
 use Rattle.demands.specs.Walks.{Chain, Each, heardOf, recordsHeard, linesAfter, Walks}
 use Rattle.demands.specs.Meets.{Meets}
 use Rattle.demands.proofs.Worked.{stepped}
@@ -101,7 +103,7 @@ module _ (s : Settings) (trace : List ℕ) (w : T.Walk) where
   text-to (suc n) = rw (map-append, lines-more, number-to n, text-to n, append-assoc)
 
 -- what the walk's contract says, as a chain
-pub walks : (c : Walk) → Walks (walked c)
+pub walks : (c : Call walk-trace) → Walks (walked c)
 unfolding T.walkAll
 walks c =
     let w = walked c in

@@ -1,18 +1,12 @@
 -- What demand 1 says of any call: "an answer or a numbered refusal in the stated order".
--- To believe: `NoneHolds` and `First` of a list of tests.
+-- To believe: `statedOrder`; `NoneHolds` and `First` of a list of tests.
 use Prim.Native.Nat.{ℕ}
 use mathlib.Core.Path.{_≡_}
 use mathlib.Core.Logic.{_↔_}
-use mathlib.Core.Bool.{Bool, true, _&&_}
-use mathlib.Core.List.{List, [], _∷_}
-use lib.Dec.{ltb}
+use mathlib.Core.Bool.{true}
+use mathlib.Core.List.{List}
 use Rattle.words.specs.Refusal.{Test, NoneHolds, First}
-
--- the numbers of a list of tests rise, as the table's do
-abbrev pub rising : List Test → Bool
-rising [] = true
-rising (t ∷ []) = true
-rising (t ∷ u ∷ ts) = ltb (t .number) (u .number) && rising (u ∷ ts)
+use Rattle.demands.specs.Order.{statedOrder, follow}
 
 -- what one call answers: `back`, with this number; `refusal n` is what it gives back of a refusal n, and `before` and
 -- `after` are what it was lent
@@ -25,7 +19,7 @@ pub record Answered
     (before after : Lent)
     : Type 0 where
   -- ".. in the stated order."
-  pub order : rising tests ≡ true
+  pub order : follow statedOrder tests ≡ true
   -- ".. an answer": 0 exactly where no case holds
   pub done : (number ≡ 0) ↔ NoneHolds tests
   -- ".. or a numbered refusal": n exactly where case n holds and none before it

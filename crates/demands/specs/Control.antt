@@ -1,72 +1,67 @@
 -- Demand 1 of the bus controller (document 02, request 14): "Each entry point ends with an answer or a numbered refusal in
 -- the stated order."; and that a caller goes on from what a run left. Demands 2 and 3 do not speak of it.
--- To believe: the tests of its entry points (`startTests`, `goOnTests`), and what `Answered.antt` names; the runs that
--- they allow (`startedAt`, `goneOn`), and `machineFrom`, what lent numbers say.
-use Prim.Native.Nat.{ℕ, _≤_}
+-- To believe: the tests of its entry points (`startTests`, `goOnTests`), what `Answered.antt` and `Exports.antt` name, and
+-- what its functions answer (`startedAt`, `goneOn`) and leave in a lent machine (`machineLeft`).
+use Prim.Native.Nat.{_≤_}
 use mathlib.Core.Path.{_≡_}
-use mathlib.Core.List.{List}
-use lib.ListN.{length, replicate}
+use mathlib.Core.List.{List, [], _∷_}
+use lib.ListN.{length}
 use denote.Ref.{now}
-use Rattle.words.specs.Refusal.{Test}
-use Rattle.control.specs.declared.run.Ran.{Ran}
 use Rattle.control.specs.Machine.{refusalIn}
 use Rattle.control.specs.Start.{notRun, startTests, startedAt, goOnTests, goneOn}
-use Rattle.control.proofs.start
-use Rattle.c_words.specs.Over.{over}
-use Rattle.c_control.specs.Numbers.{machineFrom}
-use Rattle.c_control.proofs.runs
+use Rattle.c_words.specs.Over.{over, zerosOver}
+use Rattle.c_control.specs.Numbers.{machineFrom, machineLeft, ranNumbers, ranLength}
 use Rattle.demands.specs.Entry.{Call, Entry}
-use Rattle.demands.specs.Answered.{Answered}
+use Rattle.demands.specs.Functions as f
+use Rattle.demands.specs.First.{AnsweredOnly}
+use Rattle.demands.specs.Exports.{Gives, Exports}
 
--- a run: RAM is lent to be read, and a refusal is its number with everything else zero
-abbrev pub RunAnswered : List Test → List ℕ → Ran → Type 0
-RunAnswered tests ram back = Answered tests (refusalIn (back .end)) back notRun ram ram
-
--- and for a caller in C or Rust: a refusal puts zeros over what is told of the run, and leaves the machine as it was
-abbrev pub ToldAnswered : List Test → ℕ → (ran ran′ machine machine′ : List ℕ) → Type 0
-ToldAnswered tests number ran ran′ machine machine′ =
-    Answered tests number ran′ (λ n. over ran (replicate 2 0)) machine machine′
-
-abbrev pub ExportedStart : Type 0
-ExportedStart =
-    Call 4 runs.solkverva_control.Kinds.ps runs.solkverva_control.Kinds.r runs.solkverva_control.Reads.Post
-
-abbrev pub ExportedGoOn : Type 0
-ExportedGoOn =
-    Call 4 runs.solkverva_control_on.Kinds.ps runs.solkverva_control_on.Kinds.r runs.solkverva_control_on.Reads.Post
-
+-- a refusal is its number with everything else zero; for a caller in C or Rust it puts zeros over what is told of the run,
+-- and leaves the machine as it was
 pub record Demand : Type 2 where
   pub start-at :
-      Entry 2 start.start_at.Kinds.ps start.start_at.Kinds.r start.start_at.Reads.Pre start.start_at.Reads.Post
-      start.start_at.Statement.statement
-      (λ c. RunAnswered (startTests (now (c .given .0)) (c .given .1 .1 .0)) (now (c .given .0)) (c .back))
+      Entry f.run-from
+      (λ c.
+      let (ram, (trace, (start, rest))) = c .given in
+      AnsweredOnly (startTests (now ram) start) (refusalIn (c .back .end)) (c .back) notRun)
   pub go-on :
-      Entry 2 start.go_on.Kinds.ps start.go_on.Kinds.r start.go_on.Reads.Pre start.go_on.Reads.Post
-      start.go_on.Statement.statement
-      (λ c. RunAnswered (goOnTests (now (c .given .0))) (now (c .given .0)) (c .back))
+      Entry f.run-on
+      (λ c. AnsweredOnly (goOnTests (now (c .given .0))) (refusalIn (c .back .end)) (c .back) notRun)
   pub exported-start :
-      Entry 4 runs.solkverva_control.Kinds.ps runs.solkverva_control.Kinds.r
-      runs.solkverva_control.Reads.Pre
-      runs.solkverva_control.Reads.Post runs.solkverva_control.Statement.statement
+      Entry f.c-control
       (λ c.
-      ToldAnswered (startTests (now (c .given .0)) (c .given .1 .0)) (c .back)
-      (now (c .given .1 .1 .1 .1 .1 .1 .0))
-      (c .left .1 .1 .1 .1 .1 .1 .0)
-      (now (c .given .1 .1 .1 .1 .1 .0))
-      (c .left .1 .1 .1 .1 .1 .0))
+      let (ram, (start, (flags, (budget, (trace, (machine, (ran, none))))))) = c .given in
+      Exports (startTests (now ram) start) (startedAt (now ram) (now trace) start flags budget)
+      (Gives f.run-from
+      (λ r.
+      (now (r .given .0) ≡ now ram)
+      × ((now (r .given .1 .0) ≡ now trace)
+      × ((r .given .1 .1 .0 ≡ start) × ((r .given .1 .1 .1 .0 ≡ flags) × (r .given .1 .1 .1 .1 .0 ≡ budget)))))
+      (λ r. r .back))
+      (λ a. refusalIn (a .end))
+      (λ a. machineLeft (now machine) a ∷ over (now ran) (ranNumbers a) ∷ [])
+      (λ n. now machine ∷ zerosOver (now ran) ranLength ∷ [])
+      (c .back)
+      (c .left .1 .1 .1 .1 .1 .0 ∷ c .left .1 .1 .1 .1 .1 .1 .0 ∷ []))
   pub exported-go-on :
-      Entry 4 runs.solkverva_control_on.Kinds.ps runs.solkverva_control_on.Kinds.r
-      runs.solkverva_control_on.Reads.Pre
-      runs.solkverva_control_on.Reads.Post runs.solkverva_control_on.Statement.statement
+      Entry f.c-control-on
       (λ c.
-      ToldAnswered (goOnTests (now (c .given .0))) (c .back)
-      (now (c .given .1 .1 .1 .1 .0))
-      (c .left .1 .1 .1 .1 .0)
-      (now (c .given .1 .1 .1 .0))
-      (c .left .1 .1 .1 .0))
+      let (ram, (budget, (trace, (machine, (ran, none))))) = c .given in
+      Exports (goOnTests (now ram)) (goneOn (now ram) (now trace) (machineFrom (now machine)) budget)
+      (Gives f.run-on
+      (λ r.
+      (now (r .given .0) ≡ now ram)
+      × ((now (r .given .1 .0) ≡ now trace)
+      × ((r .given .1 .1 .0 ≡ machineFrom (now machine)) × (r .given .1 .1 .1 .0 ≡ budget))))
+      (λ r. r .back))
+      (λ a. refusalIn (a .end))
+      (λ a. machineLeft (now machine) a ∷ over (now ran) (ranNumbers a) ∷ [])
+      (λ n. now machine ∷ zerosOver (now ran) ranLength ∷ [])
+      (c .back)
+      (c .left .1 .1 .1 .0 ∷ c .left .1 .1 .1 .1 .0 ∷ []))
   -- what a run left in nine numbers or more is read back as the machine that it came to, whoever goes on from it
   pub left-by-start :
-      (c : ExportedStart) →
+      (c : Call f.c-control) →
       c .back ≡ 0 →
       9 ≤ length (now (c .given .1 .1 .1 .1 .1 .0)) →
       machineFrom (c .left .1 .1 .1 .1 .1 .0)
@@ -74,7 +69,7 @@ pub record Demand : Type 2 where
       (c .given .1 .1 .1 .0)
       .machine
   pub left-by-go-on :
-      (c : ExportedGoOn) →
+      (c : Call f.c-control-on) →
       c .back ≡ 0 →
       9 ≤ length (now (c .given .1 .1 .1 .0)) →
       machineFrom (c .left .1 .1 .1 .0)

@@ -14,13 +14,10 @@ use Rattle.words.specs.Settings.{settingsRefused}
 use Rattle.message.specs.Heard.{Heard}
 use Rattle.who.specs.Replay.{heardIn}
 use Rattle.who_tables.specs.Table.{Tables, tablesOf, blankTables}
-use Rattle.who_tables.proofs.table
-use Rattle.who_replay.proofs.question
-use Rattle.who_replay.proofs.fill
-use Rattle.c_words.specs.Setup.{settingsFrom}
+use Rattle.c_words.specs.Setup.{settingsFrom, rememberedLength}
 use Rattle.c_who.specs.Origins.{LentTables, lentTablesOf, tablesIn}
-use Rattle.c_who.proofs.origins
 use Rattle.demands.specs.Entry.{Call}
+use Rattle.demands.specs.Functions.{ask, fill-tables, entry-at, c-who, c-who-fill, c-who-entry}
 
 -- ---- parts of a trace
 
@@ -45,61 +42,36 @@ recordsTaken (p ∷ ps) = cond (eqb (p .number) 0) (p .heard) [] ++ recordsTaken
 
 -- ---- the calls
 
-abbrev pub Fill : Type 0
-Fill = Call 4 fill.fill.Kinds.ps fill.fill.Kinds.r fill.fill.Reads.Post
-
-abbrev pub filledPart : Fill → Part Tables
+abbrev pub filledPart : Call fill-tables → Part Tables
 filledPart c =
+    let (ram, (numbers, (marks, (s, (at, (trace, none)))))) = c .given in
     record {
-      settings = c .given .1 .1 .1 .0;
-      heard = heardIn (now (c .given .1 .1 .1 .1 .1 .0));
-      before =
-          tablesOf (now (c .given .0)) (now (c .given .1 .0)) (now (c .given .1 .1 .0)) (c .given .1 .1 .1 .1 .0);
+      settings = s;
+      heard = heardIn (now trace);
+      before = tablesOf (now ram) (now numbers) (now marks) at;
       number = c .back .number;
       after = tablesOf (c .left .0) (c .left .1 .0) (c .left .1 .1 .0) (c .back .at);
     }
 
-abbrev pub EntryAt : Type 0
-EntryAt = Call 2 table.entry_at.Kinds.ps table.entry_at.Kinds.r table.entry_at.Reads.Post
-
-abbrev pub Ask : Type 0
-Ask = Call 2 question.ask.Kinds.ps question.ask.Kinds.r question.ask.Reads.Post
-
 -- and for callers in C and Rust
-abbrev pub ExportedFill : Type 0
-ExportedFill =
-    Call 7 origins.solkverva_who_fill.Kinds.ps origins.solkverva_who_fill.Kinds.r
-    origins.solkverva_who_fill.Reads.Post
-
-abbrev pub exportedPart : ExportedFill → Part LentTables
+abbrev pub exportedPart : Call c-who-fill → Part LentTables
 exportedPart c =
+    let (ram, (numbers, (marks, (settings, (remembered, (records, (trace, none))))))) = c .given in
     record {
-      settings = settingsFrom (now (c .given .1 .1 .1 .0));
-      heard = heardIn (now (c .given .1 .1 .1 .1 .1 .1 .0));
-      before =
-          lentTablesOf (now (c .given .0)) (now (c .given .1 .0)) (now (c .given .1 .1 .0))
-          (now (c .given .1 .1 .1 .1 .0))
-          (now (c .given .1 .1 .1 .1 .1 .0));
+      settings = settingsFrom (now settings);
+      heard = heardIn (now trace);
+      before = lentTablesOf (now ram) (now numbers) (now marks) (now remembered) (now records);
       number = c .back;
       after =
           lentTablesOf (c .left .0) (c .left .1 .0) (c .left .1 .1 .0) (c .left .1 .1 .1 .1 .0)
           (c .left .1 .1 .1 .1 .1 .0);
     }
 
-abbrev pub ExportedEntry : Type 0
-ExportedEntry =
-    Call 4 origins.solkverva_who_entry.Kinds.ps origins.solkverva_who_entry.Kinds.r
-    origins.solkverva_who_entry.Reads.Post
-
-abbrev pub ExportedAsk : Type 0
-ExportedAsk =
-    Call 5 origins.solkverva_who.Kinds.ps origins.solkverva_who.Kinds.r origins.solkverva_who.Reads.Post
-
 -- ---- the same question
 
 -- tables that are blank beside an image at first, filled by these parts, and then asked about an address; and the
 -- question about that address, of that image and the records of those parts
-pub record SameQuestion (fills : List Fill) (e : EntryAt) (q : Ask) : Type 0 where
+pub record SameQuestion (fills : List (Call fill-tables)) (e : Call entry-at) (q : Call ask) : Type 0 where
   pub settings : Settings
   pub allowed : settingsRefused settings ≡ false
   pub image : List ℕ
@@ -115,14 +87,14 @@ pub record SameQuestion (fills : List Fill) (e : EntryAt) (q : Ask) : Type 0 whe
   pub of-records : heardIn (now (q .given .1 .1 .1 .0)) ≡ recordsTaken (map filledPart fills)
 
 -- for a caller in C or Rust, who lends room for what goes on from part to part, and the same room for either answer
-pub record SameExportedQuestion (fills : List ExportedFill) (e : ExportedEntry) (q : ExportedAsk) : Type 0 where
+pub record SameExportedQuestion (fills : List (Call c-who-fill)) (e : Call c-who-entry) (q : Call c-who) : Type 0 where
   pub settings : Settings
   pub allowed : settingsRefused settings ≡ false
   pub image : List ℕ
   pub begin : LentTables
   pub end : LentTables
   pub blank : tablesIn begin ≡ blankTables image
-  pub remembered-room : 2 ≤ length (begin .remembered)
+  pub remembered-room : rememberedLength ≤ length (begin .remembered)
   pub records-room : 1 ≤ length (begin .records)
   pub filled : Parts settings begin (map exportedPart fills) end
   pub few : length (recordsTaken (map exportedPart fills)) < 2 ^ 64

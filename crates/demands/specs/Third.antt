@@ -17,16 +17,17 @@ use Rattle.words.specs.Bits.{bitOf}
 use Rattle.memory.specs.State.{State}
 use Rattle.cells.specs.Stack.{stackPointer, stackWindow}
 use Rattle.message.specs.Run.{Effect}
+use Rattle.c_words.specs.Setup.{rememberedLength}
 use Rattle.c_words_messages.specs.Call.{Lent, stateIn}
 use Rattle.exchange.specs.Order.{exchangeAll}
 use Rattle.exchange.specs.Descriptors.{stackWord}
 use Rattle.exchange.specs.Kept.{withoutStackRollover}
 use Rattle.exchange.specs.After.{rememberedLast, repliedAll}
 use Rattle.exchange.specs.Exchanged.{asked, isInside}
-use Rattle.demands.specs.Calls.{Message, MessageCall, shows, Walked, Exported}
+use Rattle.demands.specs.Calls.{Message, MessageCall, shows, CMessage, Walked}
 use Rattle.demands.specs.Meets.{Meets}
 use Rattle.demands.specs.Walks.{Chain, Handed, Each, heardOf, Walks}
-use Rattle.demands.specs.Exported.{AllShown, heardBy, HandedWords}
+use Rattle.demands.specs.Handed.{shownBy, AllExported, heardBy, HandedWords}
 
 -- what a caller sees of a message: its answer, the words at the front of the reply, and the four words where the
 -- stack pointer was
@@ -103,15 +104,15 @@ pub record Demand : Type 0 where
       asked (c .settings) (c .before) (heardOf (u .messages)) places ≡ true →
       heardOf (v .messages) ≡ exchangeAll places (heardOf (u .messages)) →
       Exchanged (c .settings) (c .before) (u .messages) (v .messages) (c .after) (d .after) places
-  -- and calls from C or Rust, one after the other, with room for the two words that are remembered
+  -- and calls from C or Rust, one after the other, with room for what is remembered
   pub exported :
-      (s : Settings) (l k j : Lent) (es fs : List Exported) (old new : List Message) (places : List ℕ) →
-      2 ≤ length (l .remembered) →
-      AllShown es old →
-      AllShown fs new →
+      (s : Settings) (l k j : Lent) (es fs : List CMessage) (places : List ℕ) →
+      rememberedLength ≤ length (l .remembered) →
+      AllExported es →
+      AllExported fs →
       asked s (stateIn l) (heardBy es) places ≡ true →
       heardBy fs ≡ exchangeAll places (heardBy es) →
-      Each Roomy old × Each Roomy new →
+      Each Roomy (map shownBy es) × Each Roomy (map shownBy fs) →
       HandedWords s l es k →
       HandedWords s l fs j →
-      Exchanged s (stateIn l) old new (stateIn k) (stateIn j) places
+      Exchanged s (stateIn l) (map shownBy es) (map shownBy fs) (stateIn k) (stateIn j) places

@@ -1,5 +1,5 @@
 -- Pieces of a long record: bytes that are copied to the front, bytes that are zero, and fields behind the old part.
-use Prim.Native.Nat.{ℕ, zero, suc, _+_, _-_, _*_, _/_, _%_, _<_, _≤_}
+use Prim.Native.Nat.{ℕ, zero, suc, _+_, _-_, _/_, _%_, _<_, _≤_}
 use native.Mathlib.Nat.{add-zero, add-suc}
 use native.Mathlib.Omega.{arith}
 use mathlib.Core.Path.{_≡_, refl, sym, ap, _∙_}
@@ -9,13 +9,13 @@ use mathlib.Core.List.{List, _++_, append-nil}
 use lib.ListN.{length, getD, set, take, drop, replicate, getD-replicate, length-append, List·getD-append}
 use lib.Seq.{ext-getD, getD-take, getD-drop, getD-append-add, getD-set-other, set-getD, length-take-le, length-front}
 use lib.Dec.{eqb}
-use borrow.Author.Tests.{eqb-true, eq-eqb, ne-eqb}
+use borrow.Author.Tests.{eqb-true}
 use Rattle.words.specs.Fill.{fill}
 use Rattle.words.proofs.Fill.{length-fill, fill-at, fill-later}
-use Rattle.words.proofs.Basics.{yes-or-no, lt-or-ge, not-both, and-left, and-right}
-use Rattle.layout.specs.Fields.{numberAt, putNumber, putFields}
-use Rattle.layout.specs.Layout.{wordAt, areZero}
-use Rattle.layout.proofs.Numbers.{put-more, zeros-number, number-zeros}
+use Rattle.words.proofs.Basics.{lt-or-ge, and-left, and-right}
+use Rattle.layout.specs.Fields.{putNumber, putFields}
+use Rattle.layout.specs.Layout.{areZero}
+use Rattle.layout.proofs.Numbers.{put-more}
 use Rattle.layout.proofs.Places.{are-zero-at, are-zero-of}
 use Rattle.layout_long.specs.declared.value.LongRecord.{LongRecord}
 use Rattle.layout_long.specs.Long.{oldPart}
@@ -84,22 +84,13 @@ zero-split s a n (suc m) =
     let last = eqb (getD s (a + n + m) 0) 0 in
     rw (add-suc, zero-split s a n m, place) (sym (and-again (areZero s a n) (areZero s (a + n) m) last))
 
--- bytes are zero exactly where the number in them is
-number-zero : (s : List ℕ) (i n : ℕ) → eqb (numberAt s i n) 0 ≡ areZero s i n
-number-zero s i n =
-    ⊎-elim
-    (λ yes. rw yes (eq-eqb (numberAt s i n) 0 (zeros-number s i n yes)))
-    (λ no. rw no (ne-eqb (numberAt s i n) 0 (λ z. not-both (areZero s i n) (number-zeros s i n z) no)))
-    (yes-or-no (areZero s i n))
-
--- two words joined are the number in their four bytes
 pub four-zero :
-    (s : List ℕ) (from high low : ℕ) → high ≡ wordAt s from → low ≡ wordAt s (from + 2) →
-    eqb (high * 65536 + low) 0 ≡ areZero s from 4
-four-zero s from high low h l =
-    let next : from + 2 + 1 ≡ from + 3 = omega arith in
-    let e : high * 65536 + low ≡ numberAt s from 4 = rw (h, l, next) (omega arith) in
-    rw e (number-zero s from 4)
+    (s : List ℕ) (from : ℕ) →
+    (((eqb (getD s from 0) 0 && eqb (getD s (from + 1) 0) 0) && eqb (getD s (from + 2) 0) 0)
+    && eqb (getD s (from + 3) 0) 0)
+    ≡ areZero s from 4
+unfolding areZero
+four-zero s from = rw add-zero
 
 pub end-split :
     (s : List ℕ) → ((areZero s 84 4 && areZero s 88 4) && areZero s 92 4) ≡ areZero s 84 12

@@ -28,14 +28,14 @@ fn new_word_at(s: &[u8], i: usize) -> u16
     join(s[i], s[i + 1])
 }
 
-// Four bytes joined to a number: for the compiler, one load.
 fn four_are_zero(s: &[u8], from: usize) -> bool
     requires { ⌜ (length (now s) ≡ 96) × (from ≤ 92) ⌝ }
     ensures { λ r. ⌜ r ≡ areZero (now (s .entry)) from 4 ⌝ }
 {
-    let high = new_word_at(s, from) as u32;
-    let low = new_word_at(s, from + 2) as u32;
-    high * 65536 + low == 0
+    both(
+        both(both(s[from] == 0, s[from + 1] == 0), s[from + 2] == 0),
+        s[from + 3] == 0,
+    )
 }
 
 // Whether bytes 84 to 95 are zero.

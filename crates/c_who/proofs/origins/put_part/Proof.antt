@@ -1,6 +1,6 @@
 -- `put_part` meets its contract: three words in a row.
 use borrow.Author.Needs.{needs}
-use Rattle.c_words.proofs.Order.{three-back}
+use Rattle.c_words.proofs.Order.{fields-put}
 use Rattle.c_who.specs.Origins.{partWords}
 use Rattle.c_who.proofs.origins.put_part.Statement.{statement}
 use Rattle.c_who.proofs.origins.put_part.Tie as tie
@@ -20,7 +20,7 @@ same-length c = search needs
 returns : tie.Need-returns
 unfolding partWords
 returns c =
-    rw (three-back, c .before .before .put3 .ensures, c .before .before .before .before .before .before .put2 .ensures, c .before .before .before .before .before .before .before .before .before .before .put .ensures)
+    rw (fields-put, c .before .before .put3 .ensures, c .before .before .before .before .before .before .put2 .ensures, c .before .before .before .before .before .before .before .before .before .before .put .ensures)
 
 pub put-part-spec : {M : Type 1} → statement M
 put-part-spec = tie.close (tie.spec put-requires put-requires-2 put-requires-3 same-length returns)

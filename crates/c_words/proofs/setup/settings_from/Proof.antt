@@ -2,7 +2,8 @@
 use borrow.Author.Needs.{needs}
 use mathlib.Core.Path.{ap, _∙_}
 use lib.Dec.{eqb}
-use Rattle.c_words.specs.Setup.{isYes, areaFrom, settingsFrom}
+use Rattle.c_words.specs.Fields.{isYes}
+use Rattle.c_words.specs.Setup.{areaFrom, settingsFrom}
 use Rattle.c_words.proofs.setup.settings_from.Statement.{statement}
 use Rattle.c_words.proofs.setup.settings_from.Tie as tie
 

@@ -1,7 +1,7 @@
 -- `put_answer` meets its contract: nine words in a row.
 use borrow.Author.Needs.{needs}
 use Rattle.c_words_messages.specs.Answers.{answerWords}
-use Rattle.c_words.proofs.Order.{nine-back}
+use Rattle.c_words.proofs.Order.{fields-put}
 use Rattle.c_words_messages.proofs.answers.put_answer.Statement.{statement}
 use Rattle.c_words_messages.proofs.answers.put_answer.Tie as tie
 
@@ -24,7 +24,7 @@ returns : tie.Need-returns
 unfolding answerWords
 returns c =
     rw (
-      nine-back,
+      fields-put,
       c .before .before .put-four2 .ensures,
       c .before .before .before .before .before .before .put-four .ensures,
       c .before .before .before .before .before .before .before .bit-of .ensures .0,

@@ -2,7 +2,7 @@
 use borrow.Author.Needs.{needs}
 use Rattle.words.specs.Bits.{bitOf}
 use Rattle.message.specs.Answer.{refusedWith}
-use Rattle.c_words.proofs.Order.{nine-back}
+use Rattle.c_words.proofs.Order.{fields-put}
 use Rattle.c_words_messages.specs.Answers.{answerWords}
 use Rattle.c_words_messages.proofs.answers.put_refusal.Statement.{statement}
 use Rattle.c_words_messages.proofs.answers.put_refusal.Tie as tie
@@ -23,7 +23,7 @@ returns : tie.Need-returns
 unfolding answerWords refusedWith
 returns c =
     rw (
-      nine-back,
+      fields-put,
       c .before .before .put-four2 .ensures,
       c .before .before .before .before .before .before .put-four .ensures,
       c .before .before .before .before .before .before .before .before .before .before .put .ensures,

@@ -7,11 +7,11 @@ use Rattle.c_words_messages.proofs.values.value_from.Tie as tie
 words-from-requires : tie.Need-words-from-requires
 words-from-requires c κs = search needs
 
-capped-at-requires : tie.Need-capped-at-requires
-capped-at-requires c κs = search needs
+byte-at-requires : tie.Need-byte-at-requires
+byte-at-requires c κs = search needs
 
-capped-at-requires-2 : tie.Need-capped-at-requires-2
-capped-at-requires-2 c κs = search needs
+byte-at-requires-2 : tie.Need-byte-at-requires-2
+byte-at-requires-2 c κs = search needs
 
 word-at-requires : tie.Need-word-at-requires
 word-at-requires c κs = search needs
@@ -29,8 +29,8 @@ returns c =
       c .word-at3 .ensures,
       c .before .word-at2 .ensures,
       c .before .before .word-at .ensures,
-      c .before .before .before .capped-at2 .ensures,
-      c .before .before .before .before .capped-at .ensures,
+      c .before .before .before .byte-at2 .ensures,
+      c .before .before .before .before .byte-at .ensures,
       c .before .before .before .before .before .words-from .ensures,
     )
 
@@ -39,8 +39,8 @@ value-from-spec =
     tie.close
     (tie.spec
     words-from-requires
-    capped-at-requires
-    capped-at-requires-2
+    byte-at-requires
+    byte-at-requires-2
     word-at-requires
     word-at-requires-2
     word-at-requires-3

@@ -1,8 +1,8 @@
 -- `solkverva_message_long` meets its contract: the message, with settings and state from plain words.
 use borrow.Author.Needs.{needs}
 use Rattle.c_words_messages.proofs.Called.{called}
-use Rattle.c_long.proofs.from_long.solkverva_message_long.Statement.{statement}
-use Rattle.c_long.proofs.from_long.solkverva_message_long.Tie as tie
+use Rattle.c_message_long.proofs.from_long.solkverva_message_long.Statement.{statement}
+use Rattle.c_message_long.proofs.from_long.solkverva_message_long.Tie as tie
 
 settings-from-requires : tie.Need-settings-from-requires
 settings-from-requires c κs = search needs
