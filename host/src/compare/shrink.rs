@@ -1,6 +1,7 @@
 //! Makes a case on which two terminals differ small enough to be read.
 
 use super::case::{Case, Message, State};
+use crate::terminal::cells::RAM_WORDS;
 use crate::terminal::records::{Record, RECORD_WORDS};
 use crate::terminal::{Remembered, Settings};
 
@@ -101,10 +102,24 @@ impl<T: Clone + PartialEq, F: Fn(&T) -> bool> Shrinking<T, F> {
     }
 }
 
+/// The same on the card of 4,096 words, with as much of it lent.
+fn on_small_card(case: &mut Case) {
+    let Case { state, request } = case;
+    let card = state.card_words();
+    if card > RAM_WORDS {
+        state.ram.drain(RAM_WORDS..card);
+        request.ram_words = match request.ram_words {
+            words if words >= card - 1 => words - (card - RAM_WORDS),
+            words => words.min(state.ram.len()),
+        };
+    }
+}
+
 impl<F: Fn(&Case) -> bool> Shrinking<Case, F> {
     /// One round of every step; whether anything became smaller.
     fn round(&mut self) -> bool {
-        let mut smaller = self.zero_state(|case| &mut case.state);
+        let mut smaller = self.take(on_small_card);
+        smaller |= self.zero_state(|case| &mut case.state);
         smaller |= self.simplify_settings(|case| &mut case.request.settings);
         match self.smallest.request.message.clone() {
             Message::Bytes(bytes) => smaller |= self.shrink_bytes(bytes),

@@ -65,7 +65,7 @@ fn the_commands_print_what_is_shown() {
             commands += 1;
         }
     }
-    assert_eq!(commands, 26);
+    assert_eq!(commands, 29);
 }
 
 #[test]
@@ -78,6 +78,7 @@ fn the_samples_are_those_under_examples() {
         "transfers",
         "trainer",
         "long/outlasts",
+        "large/circle",
     ] {
         let text = read(&format!("examples/{sample}.txt"));
         assert!(blocks(&guide()).contains(&text), "{sample}");

@@ -122,6 +122,11 @@ fn long_records_print_what_is_stored() {
 }
 
 #[test]
+fn the_64k_card_prints_what_is_stored() {
+    holds("large");
+}
+
+#[test]
 fn help_prints_what_is_stored() {
     holds("help");
 }
