@@ -68,7 +68,7 @@ pub const COMMANDS: [Command; 9] = [
         name: "label",
         help: include_str!("front/help/label.txt"),
         grammar: Grammar::files(1, 2)
-            .flags(&["--pairs"])
+            .flags(&["--pairs", LONG])
             .values(&["--names"])
             .forms(&FORMS),
         run: label::run,

@@ -30,7 +30,8 @@ struct Run {
 }
 
 pub fn run(given: &Given, output: &mut dyn Write) -> Result<ExitCode, Problem> {
-    let mut source = Source::open(given)?;
+    // A controller's outcomes are old records.
+    let mut source = Source::open_records(given, Some(false))?;
     let ram = source.whole_image()?;
     if given.has("--list") {
         let text = listing::listing(&ram, &source.list.labels);

@@ -1,6 +1,7 @@
 //! What a message did, in words.
 
 use super::heard::{self, Heard};
+use super::history::Accepted;
 use super::names::{self, addresses, cell_name, count, subaddress_of};
 use super::outcome::Outcome;
 use super::replay::{places, Moved, Replay};
@@ -14,8 +15,14 @@ use crate::terminal::words::Command;
 use crate::terminal::{Answer, Record, Settings};
 use crate::text::Owners;
 
-/// Lines about the record that a replay has just met.
-pub fn explain(replay: &Replay, owners: &Owners, bytes: &[u8], answer: &Answer) -> Vec<String> {
+/// Lines about the record that a replay has just met, accepted or not.
+pub fn explain(
+    replay: &Replay,
+    owners: &Owners,
+    bytes: &[u8],
+    answer: &Answer,
+    accepted: Option<&Accepted>,
+) -> Vec<String> {
     let (unreadable, heard) = heard::read(bytes);
     let record = heard.record;
     let mut lines = Vec::new();
@@ -23,14 +30,13 @@ pub fn explain(replay: &Replay, owners: &Owners, bytes: &[u8], answer: &Answer) 
         lines.push(asked(&heard, &replay.settings, owners));
         lines.extend(asked_of_the_other(&record, &replay.settings, owners));
     }
-    if answer.number == 0 {
-        lines.extend(accepted(replay, owners, &record, answer));
-    } else {
-        let why = why_refused(&replay.ram, &replay.settings, owners, bytes, answer.number);
-        lines.push(format!(
-            "refused with {}: {why}; nothing has changed",
-            answer.number
-        ));
+    match accepted {
+        Some(message) => lines.extend(done(replay, owners, &record, answer, message)),
+        None => {
+            let why = why_refused(&replay.ram, &replay.settings, owners, bytes, answer.number);
+            let number = answer.number;
+            lines.push(format!("refused with {number}: {why}; nothing has changed"));
+        }
     }
     lines
 }
@@ -59,19 +65,25 @@ fn asked_of_the_other(record: &Record, settings: &Settings, owners: &Owners) -> 
     })
 }
 
-fn accepted(replay: &Replay, owners: &Owners, record: &Record, answer: &Answer) -> Vec<String> {
+/// What an accepted message did.
+fn done(
+    replay: &Replay,
+    owners: &Owners,
+    record: &Record,
+    answer: &Answer,
+    message: &Accepted,
+) -> Vec<String> {
     let cell = replay.cell_of(answer);
-    let words = replay.moved(answer);
-    let outcome = Outcome::new(answer, record, &replay.settings, words.len());
+    let Accepted { facts, words } = message;
     let mut lines = vec![format!(
         "{}; {}",
-        say::heard(record, &outcome, &replay.settings),
-        moved(answer, &outcome, &words)
+        say::heard(record, &facts.outcome, &replay.settings),
+        moved(answer, &facts.outcome, words)
     )];
     if cell.kind == Kind::Transmit {
-        lines.extend(whose_words(owners, &words));
+        lines.extend(whose_words(owners, words));
     } else {
-        lines.extend(who_shares(replay, owners, answer, &places(&words)));
+        lines.extend(who_shares(replay, owners, answer, &places(words)));
     }
     lines.push(pointer(owners, answer, &cell));
     let (block_status, interrupt) = (answer.block_status, answer.interrupt);
@@ -100,21 +112,26 @@ fn moved(answer: &Answer, outcome: &Outcome, words: &[Moved]) -> String {
 
 /// Whose words were sent: a line for each message that they came with.
 fn whose_words(owners: &Owners, words: &[Moved]) -> Vec<String> {
-    let mut groups: Vec<(Option<(u64, u16)>, Vec<usize>)> = Vec::new();
+    let record = |word: &Moved| word.origin.map(|it| it.record);
+    let mut groups: Vec<(&Moved, Vec<usize>)> = Vec::new();
     for word in words {
-        let origin = word.origin.map(|it| (it.record, it.cell));
         match groups.last_mut() {
-            Some((known, places)) if *known == origin => places.push(word.address),
-            _ => groups.push((origin, vec![word.address])),
+            Some((first, places)) if record(first) == record(word) => places.push(word.address),
+            _ => groups.push((word, vec![word.address])),
         }
     }
-    let line = |(origin, places): (Option<(u64, u16)>, Vec<usize>)| {
+    let line = |(first, places): (&Moved, Vec<usize>)| {
         let places = names::runs(&places);
-        match origin {
+        match first.origin {
             None => format!("{places} is as in the image"),
-            Some((record, cell)) => {
-                let cell = cell_name(owners, cell);
-                format!("{places} came with record {record}, for {cell}")
+            Some(origin) => {
+                let cell = cell_name(owners, origin.cell);
+                let bad = first.not_good().map(|verdict| format!(" {verdict},"));
+                let bad = bad.unwrap_or_default();
+                format!(
+                    "{places} came with record {},{bad} for {cell}",
+                    origin.record
+                )
             }
         }
     };

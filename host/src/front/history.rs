@@ -25,6 +25,13 @@ pub struct Facts {
     turns: (u64, u64),
 }
 
+/// What is known of a message that was just accepted.
+pub struct Accepted {
+    pub facts: Facts,
+    /// The words that it stored or sent, in their order.
+    pub words: Vec<Moved>,
+}
+
 /// Whether a cell's pointer has passed words in its window since they were
 /// written there.
 #[derive(Clone, Copy, Debug, PartialEq, Eq)]
@@ -54,9 +61,8 @@ impl History {
         }
     }
 
-    /// The next record; the words of an accepted one come with its answer and
-    /// its facts.
-    pub fn message(&mut self, bytes: &[u8]) -> (Answer, Option<(Facts, Vec<Moved>)>) {
+    /// The next record: its answer, and of an accepted one what is known.
+    pub fn message(&mut self, bytes: &[u8]) -> (Answer, Option<Accepted>) {
         let answer = self.replay.message(bytes);
         if answer.number != 0 {
             return (answer, None);
@@ -74,7 +80,7 @@ impl History {
         }
         let stack = self.replay.stack();
         self.facts[entry_before(&stack.block, stack.pointer.into())] = facts;
-        (answer, Some((facts, words)))
+        (answer, Some(Accepted { facts, words }))
     }
 
     /// The facts of the message that was just accepted.

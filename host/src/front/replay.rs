@@ -24,6 +24,14 @@ pub struct Moved {
     pub came: Option<Outcome>,
 }
 
+impl Moved {
+    /// What kept the message that it came with from being good, if anything did.
+    pub fn not_good(&self) -> Option<String> {
+        let came = self.came.filter(|came| !came.is_good());
+        came.map(|came| came.verdict())
+    }
+}
+
 /// Where words lie, in their order.
 pub fn places(words: &[Moved]) -> Vec<usize> {
     words.iter().map(|word| word.address).collect()

@@ -5,6 +5,7 @@ use std::process::ExitCode;
 
 use super::changes::write_changes;
 use super::explain::explain;
+use super::history::History;
 use super::options::Given;
 use super::problem::{self, Problem};
 use super::replay::Replay;
@@ -31,13 +32,13 @@ pub fn run(given: &Given, output: &mut dyn Write) -> Result<ExitCode, Problem> {
     if source.tail() > 0 {
         push_line(&mut text, b"tail ", source.tail() as u64);
     }
-    push_line(&mut text, b"end ", run.replay.records);
+    push_line(&mut text, b"end ", run.history.replay.records);
     output.write_all(&text).map_err(problem::output)?;
     Ok(ExitCode::SUCCESS)
 }
 
 struct Run {
-    replay: Replay,
+    history: History,
     owners: crate::text::Owners,
     explains: bool,
     /// The RAM before the message, where changes are shown.
@@ -54,7 +55,7 @@ impl Run {
             Replay::new(image, source.settings)
         };
         Run {
-            replay,
+            history: History::new(replay),
             owners: source.owners.clone(),
             explains,
             before,
@@ -62,16 +63,20 @@ impl Run {
     }
 
     fn record(&mut self, bytes: &[u8], text: &mut Vec<u8>) {
-        let answer = self.replay.message(bytes);
-        push_answer(text, self.replay.records, &answer);
+        let (answer, accepted) = match self.explains {
+            true => self.history.message(bytes),
+            false => (self.history.replay.message(bytes), None),
+        };
+        let replay = &self.history.replay;
+        push_answer(text, replay.records, &answer);
         if self.explains {
-            for line in explain(&self.replay, &self.owners, bytes, &answer) {
+            for line in explain(replay, &self.owners, bytes, &answer, accepted.as_ref()) {
                 text.extend_from_slice(format!("    {line}\n").as_bytes());
             }
         }
         if let Some(before) = &mut self.before {
             let mut changes = String::new();
-            let Replay { ram, reply, .. } = &self.replay;
+            let Replay { ram, reply, .. } = replay;
             write_changes(&mut changes, before, ram, reply, &answer)
                 .expect("writing to a string never fails");
             text.extend_from_slice(changes.as_bytes());

@@ -174,7 +174,8 @@ fn word_faults(record: &Record, block_status: u16) -> Vec<String> {
     };
     let mut wrong = Vec::new();
     if block_status & 0x0020 != 0 {
-        wrong.push(format!("{words} came and {expected} were expected"));
+        let were = if expected == 1 { "was" } else { "were" };
+        wrong.push(format!("{words} came and {expected} {were} expected"));
     }
     if record.has_flag(FLAG_WRONG_SYNC) {
         wrong.push(format!("a wrong sync after {words}"));

@@ -5,7 +5,10 @@ pub fn lines(text: &[u8]) -> impl Iterator<Item = &[u8]> {
     let mut rest = Some(text);
     std::iter::from_fn(move || {
         let text = rest?;
-        let end = text.iter().position(|byte| b"\r\n".contains(byte));
+        // Nearly all bytes are larger than both.
+        let end = text
+            .iter()
+            .position(|byte| *byte <= b'\r' && b"\r\n".contains(byte));
         let (line, behind) = match end {
             None => (text, None),
             Some(end) => {

@@ -146,17 +146,20 @@ fn read_flags(tokens: &mut Tokens) -> Result<u16, Mismatch> {
 /// One to 32 data words; returns how many.
 fn read_words(tokens: &mut Tokens, words: &mut [u16; RECORD_WORDS]) -> Result<usize, Mismatch> {
     let mut written = 0;
-    while !tokens.at_end_or(&PARTS) {
-        match words.get_mut(written) {
-            Some(word) => *word = tokens.hex_word("a data word")?,
-            None => {
-                return mismatch(
-                    "more than 32 words",
-                    "at most 32 (count 33 says more were heard)",
-                )
-            }
+    while written < words.len() {
+        match tokens.hex_word_if_next() {
+            Some(word) => words[written] = word,
+            None => break,
         }
         written += 1;
+    }
+    // No part's name is a word in digits, so what comes next is a name or wrong.
+    if !tokens.at_end_or(&PARTS) {
+        if written == words.len() {
+            let expected = "at most 32 (count 33 says more were heard)";
+            return mismatch("more than 32 words", expected);
+        }
+        tokens.hex_word("a data word")?;
     }
     if written == 0 {
         return mismatch("words without a word", "1 to 32 data words");

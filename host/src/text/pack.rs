@@ -309,9 +309,9 @@ impl Packer {
     fn message_line(&mut self, tokens: &mut Tokens) -> Result<(), Mismatch> {
         self.enter_records("message")?;
         if self.long == Some(true) {
-            self.records.extend(read_long_message(tokens)?);
+            self.records.extend_from_slice(&read_long_message(tokens)?);
         } else {
-            self.records.extend(read_message(tokens)?);
+            self.records.extend_from_slice(&read_message(tokens)?);
         }
         Ok(())
     }

@@ -1,8 +1,6 @@
 //! Reading a line of text: its pieces, and what is said of a wrong one.
 
 use std::fmt;
-use std::iter::Peekable;
-use std::str::SplitWhitespace;
 
 use super::unseen::visible;
 
@@ -68,26 +66,38 @@ pub fn shown(token: Option<&str>) -> String {
 }
 
 /// The blank-separated pieces of a line, up to a comment.
-pub struct Tokens<'a>(Peekable<SplitWhitespace<'a>>);
+pub struct Tokens<'a> {
+    /// Behind the next piece.
+    rest: &'a str,
+    next: Option<&'a str>,
+}
 
 impl<'a> Tokens<'a> {
     pub fn new(line: &'a str) -> Tokens<'a> {
         let content = line.split('#').next().unwrap_or_default();
-        Tokens(content.split_whitespace().peekable())
+        let (next, rest) = first_piece(content);
+        Tokens { rest, next }
     }
 
-    pub fn at_end(&mut self) -> bool {
-        self.at_end_or(&[])
+    pub fn at_end(&self) -> bool {
+        self.next.is_none()
     }
 
     /// Whether the line ends here or one of these names comes next.
-    pub fn at_end_or(&mut self, names: &[&str]) -> bool {
-        self.0.peek().map_or(true, |token| names.contains(token))
+    pub fn at_end_or(&self, names: &[&str]) -> bool {
+        self.next.map_or(true, |token| names.contains(&token))
     }
 
     /// Whether this comes next.
-    pub fn is_next(&mut self, name: &str) -> bool {
-        self.0.peek() == Some(&name)
+    pub fn is_next(&self, name: &str) -> bool {
+        self.next == Some(name)
+    }
+
+    /// A word of one to four hexadecimal digits, where one comes next.
+    pub fn hex_word_if_next(&mut self) -> Option<u16> {
+        let word = self.next.and_then(|token| hex_digits(token, 4))?;
+        self.next();
+        Some(word as u16)
     }
 
     pub fn end(&mut self) -> Result<(), Mismatch> {
@@ -147,15 +157,38 @@ impl<'a> Iterator for Tokens<'a> {
     type Item = &'a str;
 
     fn next(&mut self) -> Option<&'a str> {
-        self.0.next()
+        let (next, rest) = first_piece(self.rest);
+        self.rest = rest;
+        std::mem::replace(&mut self.next, next)
     }
 }
 
-/// Digits alone; signs, which number parsing lets through, are none.
+/// The first piece of a text, if there is one, and what is behind it. Nearly
+/// always it stands behind one blank and ends before another, and its characters
+/// are a byte each, so that none has to be put together.
+fn first_piece(text: &str) -> (Option<&str>, &str) {
+    let plain = |byte: u8| byte.is_ascii_graphic();
+    let behind_blank = text.strip_prefix(' ').unwrap_or(text);
+    let text = match behind_blank.bytes().next() {
+        Some(byte) if plain(byte) => behind_blank,
+        _ => behind_blank.trim_start(),
+    };
+    let end = match text.bytes().position(|byte| !plain(byte)) {
+        Some(end) if text.as_bytes()[end] == b' ' => end,
+        Some(_) => text.find(char::is_whitespace).unwrap_or(text.len()),
+        None => text.len(),
+    };
+    let (piece, rest) = text.split_at(end);
+    ((end > 0).then_some(piece), rest)
+}
+
+/// One to so many digits, eight at most, and no sign.
 fn hex_digits(token: &str, most: usize) -> Option<u32> {
-    let is_hex = token.bytes().all(|byte| byte.is_ascii_hexdigit());
-    let fits = is_hex && token.len() <= most;
-    u32::from_str_radix(token, 16).ok().filter(|_| fits)
+    let mut number = 0;
+    for byte in token.bytes() {
+        number = number << 4 | char::from(byte).to_digit(16)?;
+    }
+    (1..=most).contains(&token.len()).then_some(number)
 }
 
 /// A number in digits alone; signs, which number parsing lets through, are none.

@@ -79,7 +79,7 @@ fn check(played: &Played, telling: &Telling, seen: &mut Seen) -> Held {
                 verdicts::check_card(played, number, section)?;
                 labels::check_card(played, number, section, seen)?;
                 index::check(played, number, &telling.page, seen)?;
-                labels::check_index(played, number, &telling.page)?;
+                labels::check_index(played, number, &telling.page, seen)?;
             }
         }
     }
@@ -89,7 +89,7 @@ fn check(played: &Played, telling: &Telling, seen: &mut Seen) -> Held {
     labels::check_pairs(played, &telling.pairs)
 }
 
-const CLASSES: [&str; 42] = [
+const CLASSES: [&str; 45] = [
     "a word was sent and stands",
     "a word was sent and overwritten",
     "a word was sent and overwritten with its like",
@@ -126,6 +126,9 @@ const CLASSES: [&str; 42] = [
     "a quiet note",
     "no label",
     "a crowd",
+    "shared with the same owner",
+    "shared with others and the same owner",
+    "shared with the same subaddress of nobody",
     "words where another's cell can write",
     "words where a used cell of the same owner can",
     "shared words that are harmless",

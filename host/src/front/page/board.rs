@@ -5,7 +5,7 @@ use std::collections::VecDeque;
 use crate::engine;
 use crate::front::explain::{asked_cell, why_refused};
 use crate::front::heard;
-use crate::front::history::{Facts, History};
+use crate::front::history::{Accepted, Facts, History};
 use crate::front::names::{cell_number, kind_of, KINDS};
 use crate::front::problem::Problem;
 use crate::front::replay::{Moved, Replay};
@@ -87,12 +87,13 @@ impl Board {
 
     fn record(&mut self, bytes: &[u8]) {
         match self.history.message(bytes) {
-            (answer, Some((facts, words))) => self.accepted(&answer, facts, words),
+            (answer, Some(message)) => self.accepted(&answer, message),
             (answer, None) => self.refused(bytes, answer.number),
         }
     }
 
-    fn accepted(&mut self, answer: &Answer, facts: Facts, words: Vec<Moved>) {
+    fn accepted(&mut self, answer: &Answer, message: Accepted) {
+        let Accepted { facts, words } = message;
         let message = Message {
             record: self.history.replay.records,
             facts,

@@ -14,9 +14,9 @@ use crate::front::say;
 /// Where the pointer stands, and the newest messages.
 pub fn write_facts(out: &mut dyn Write, board: &Board, cell: u16, pointer: u16) -> io::Result<()> {
     let next = if board.stores(cell) {
-        "the next message\u{2019}s words go here"
+        "the next words that it stores go here"
     } else {
-        "the next message sends from here"
+        "the next words that it sends come from here"
     };
     let pointer = code(&format!("{pointer:04X}"));
     writeln!(out, "<dl>\n<dt>Pointer now</dt><dd>{pointer}, {next}</dd>")?;

@@ -83,16 +83,10 @@ pub fn others_sent(board: &Board, cell: u16, message: &Message) -> Vec<u16> {
     others
 }
 
-/// How the message went that a word came with, where it was not good.
-fn not_good(word: &Moved) -> Option<String> {
-    let came = word.came.filter(|came| !came.is_good());
-    came.map(|came| came.verdict())
-}
-
 /// What was wrong with the messages whose words a message sent, each once.
 pub fn not_good_sent(message: &Message) -> Vec<String> {
     let mut all: Vec<String> = Vec::new();
-    for verdict in message.words.iter().filter_map(not_good) {
+    for verdict in message.words.iter().filter_map(Moved::not_good) {
         if !all.contains(&verdict) {
             all.push(verdict);
         }
@@ -146,8 +140,10 @@ fn sent_line(board: &Board, cell: u16, sent: &Sent) -> String {
         None => "as in the image".to_string(),
         Some(origin) => {
             let name = html::cell(&board.owners, origin.cell);
-            let bad = not_good(&sent.words[0]);
-            let which = bad.as_ref().map_or(String::new(), |bad| format!(", {bad}"));
+            let bad = sent.words[0].not_good();
+            let which = bad
+                .as_ref()
+                .map_or(String::new(), |bad| format!(", {bad},"));
             let came = format!("came with record {}{which} for {name}", origin.record);
             match bad.is_none() && board.same_owner(cell, origin.cell) {
                 true => came,

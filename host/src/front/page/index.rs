@@ -110,20 +110,26 @@ fn what_it_sent(board: &Board, number: u16, message: &Message) -> String {
         .collect()
 }
 
-/// Those who are owned or used, each, and how many others there are.
+/// Those who are owned or used, each of others, and how many more there are.
 fn shared_with(board: &Board, number: u16) -> String {
     let sharing = board.sharers(number);
     let others = sharing.named.iter().map(|named| named.cell);
     let others = others.filter(|&other| !board.same_owner(number, other));
-    let mut others: Vec<String> = others.map(|other| cell(&board.owners, other)).collect();
+    let mut all: Vec<String> = others.map(|other| cell(&board.owners, other)).collect();
+    if all.len() < sharing.named.len() {
+        let same = match board.owners.is_empty() {
+            true => "the same subaddress",
+            false => "the same owner",
+        };
+        all.push(same.to_string());
+    }
     let quiet: usize = sharing.quiet.iter().map(|quiet| quiet.cells.len()).sum();
     if quiet > 0 {
         let cells = count(quiet as u64, "cell");
-        others.push(format!("{cells} never used and unowned"));
+        all.push(format!("{cells} never used and unowned"));
     }
-    match others.len() {
-        0 if sharing.is_empty() => "nobody".to_string(),
-        0 => "the same owner".to_string(),
-        _ => others.join(", "),
+    match all.is_empty() {
+        true => "nobody".to_string(),
+        false => all.join(", "),
     }
 }

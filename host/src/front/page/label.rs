@@ -41,7 +41,7 @@ fn heading(board: &Board, cell: u16, sharing: &CellSharing) -> (&'static str, &'
         ),
         (false, _) => (
             "quiet",
-            "Shared, but no other owner\u{2019}s cell and none in use can write in this window",
+            "Shared, but no other owner\u{2019}s cell and no other cell in use can write in this window",
         ),
     }
 }

@@ -30,7 +30,7 @@ pub fn write_stack(out: &mut dyn Write, board: &Board) -> io::Result<()> {
     writeln!(
         out,
         "<div class=\"wide\"><table>\n<thead><tr><th>Record</th><th>Tag</th><th>Message</th>\
-         <th>How it went</th><th>Words from</th><th>Entry</th></tr></thead>\n<tbody>"
+         <th>How it went</th><th>Pointer before</th><th>Entry</th></tr></thead>\n<tbody>"
     )?;
     for &(record, place) in &entries {
         write_entry(out, board, record, place)?;

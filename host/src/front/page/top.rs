@@ -59,15 +59,16 @@ pub fn write_key(out: &mut dyn Write) -> io::Result<()> {
 
 const KEY: &str = "<section class=\"key\">
 <h2>What the letters mean</h2>
-<p>A subaddress is a moving pointer and not a place: look where the words came from.</p>
+<p>A subaddress is a moving pointer and not a place: look where the words came from. It has a cell for each way, to
+receive, to transmit and, where that is separate, for broadcasts, each with a pointer of its own.</p>
 <ul>
-<li><i class=\"n\">N</i> the newest good message of this subaddress</li>
-<li><i class=\"o\">O</i> an older good message of this subaddress</li>
-<li><i class=\"f\">F</i> a faulty, illegal or busy message of this subaddress, which left its words behind</li>
+<li><i class=\"n\">N</i> the newest good message for this cell</li>
+<li><i class=\"o\">O</i> an older good message for this cell</li>
+<li><i class=\"f\">F</i> a faulty, illegal or busy message for this cell, which left its words behind</li>
 <li><i class=\"x\">a</i> <i class=\"x\">b</i> another cell: its owner is named beside the words</li>
 <li><i class=\"i\">I</i> as in the image: it was there before this trace</li>
-<li><i class=\"next\">\u{2192}</i> the pointer stands here now: the next message begins here</li>
-<li><i class=\"sent\">\u{2191}</i> sent by the newest good message of a subaddress that sends, and not written since</li>
+<li><i class=\"next\">\u{2192}</i> the pointer stands here now: the next words begin here</li>
+<li><i class=\"sent\">\u{2191}</i> sent by the newest good message of a cell that sends, and not written since</li>
 </ul>
 </section>
 ";

@@ -1,5 +1,6 @@
 //! Falsehoods planted in what the program tells. The tests must find each.
 
+use super::labels::warning;
 use super::parts::article;
 use super::played::{is_good, verdict, Played};
 use super::Telling;
@@ -10,7 +11,7 @@ pub struct Falsehood {
     pub plant: fn(&Played, &Telling) -> Option<Telling>,
 }
 
-pub const FALSEHOODS: [Falsehood; 14] = [
+pub const FALSEHOODS: [Falsehood; 17] = [
     Falsehood {
         name: "an overwritten word bears the mark of a sent one",
         plant: overwritten_as_sent,
@@ -40,6 +41,10 @@ pub const FALSEHOODS: [Falsehood; 14] = [
         plant: busy_good_in_words,
     },
     Falsehood {
+        name: "words that were not good, sent and not told so by explain",
+        plant: good_words_sent,
+    },
+    Falsehood {
         name: "withheld not told",
         plant: not_withheld,
     },
@@ -60,8 +65,16 @@ pub const FALSEHOODS: [Falsehood; 14] = [
         plant: not_yellow,
     },
     Falsehood {
+        name: "another owner's cell that was never used in a quiet note",
+        plant: quiet_for_unused,
+    },
+    Falsehood {
         name: "yellow for cells that nobody owns or uses",
         plant: yellow_for_nobody,
+    },
+    Falsehood {
+        name: "others who can write, where there are none",
+        plant: others_for_own,
     },
     Falsehood {
         name: "a group with one cell less",
@@ -187,6 +200,24 @@ fn busy_good_in_words(played: &Played, telling: &Telling) -> Option<Telling> {
     Some(telling)
 }
 
+/// The first line of any record that these words are in, without them.
+fn good_words_sent(played: &Played, telling: &Telling) -> Option<Telling> {
+    let mut telling = telling.clone();
+    for (done, lines) in played.done.iter().zip(&mut telling.explained) {
+        let bad = done.words.iter().find_map(|word| {
+            let came = played.of(word.origin?.record);
+            (!done.stores() && !is_good(came)).then(|| verdict(came))
+        });
+        if let Some(bad) = bad {
+            let told = format!(", {bad}, for ");
+            let line = lines.iter_mut().find(|line| line.contains(&told))?;
+            *line = line.replacen(&told, ", for ", 1);
+            return Some(telling);
+        }
+    }
+    None
+}
+
 fn not_withheld(played: &Played, telling: &Telling) -> Option<Telling> {
     any_card(played, telling, "withheld by ", "none was heard, not by ")
 }
@@ -235,12 +266,28 @@ fn not_yellow(_: &Played, telling: &Telling) -> Option<Telling> {
     )
 }
 
+/// Where the label warns of such cells alone.
+fn quiet_for_unused(played: &Played, telling: &Telling) -> Option<Telling> {
+    let unused = |&number: &u16| {
+        let warning = warning(played, number);
+        !warning.is_empty() && warning.iter().all(|&other| !played.is_used(other))
+    };
+    let mut cells = played.sound_cells().into_iter().filter(unused);
+    let [yellow, quiet] = ["label", "quiet"].map(|it| format!("<aside class=\"{it}\">"));
+    cells.find_map(|number| card(telling, number, &yellow, &quiet))
+}
+
 fn yellow_for_nobody(_: &Played, telling: &Telling) -> Option<Telling> {
     page(
         telling,
         "<aside class=\"quiet\">",
         "<aside class=\"label\">",
     )
+}
+
+fn others_for_own(_: &Played, telling: &Telling) -> Option<Telling> {
+    let own = "A used cell of the same subaddress or owner can write";
+    page(telling, own, "Cells of others can write")
 }
 
 fn smaller_group(_: &Played, telling: &Telling) -> Option<Telling> {

@@ -93,11 +93,32 @@ fn sharers(played: &Played, number: u16) -> (Vec<u16>, Vec<(Range<usize>, Vec<u1
     (named, quiet)
 }
 
+/// The cells in a cell's window that its owner is to be warned of.
+pub fn warning(played: &Played, number: u16) -> Vec<u16> {
+    let mut named = sharers(played, number).0;
+    named.retain(|&other| warns(played, number, other));
+    named
+}
+
+/// What stands over the cells of a label.
+fn heading_of(played: &Played, number: u16, is_shared: bool) -> &'static str {
+    let warning = warning(played, number);
+    let of_others = warning
+        .iter()
+        .any(|&other| !played.same_owner(number, other));
+    match (is_shared, warning.is_empty(), of_others) {
+        (false, ..) => "",
+        (_, true, _) => "Shared, but no other owner\u{2019}s cell and no other cell in use can write in this window:",
+        (_, _, true) => "<b>Shared words.</b> Cells of others can write in this window:",
+        _ => "<b>Shared words.</b> A used cell of the same subaddress or owner can write in this window:",
+    }
+}
+
 /// The label on a cell's card.
 pub fn check_card(played: &Played, number: u16, article: &str, seen: &mut Seen) -> Held {
     let what = format!("label of cell {number}");
     let (named, quiet) = sharers(played, number);
-    let yellow = named.iter().any(|&other| warns(played, number, other));
+    let yellow = !warning(played, number).is_empty();
     for (class, must) in [
         ("label", yellow),
         ("quiet", !yellow && named.len() + quiet.len() > 0),
@@ -109,6 +130,13 @@ pub fn check_card(played: &Played, number: u16, article: &str, seen: &mut Seen) 
             &format!("{class} {must}"),
         )?;
     }
+    let aside = between(article, "<aside", "</aside>").map_or("", |(aside, _)| aside);
+    let heading = between(aside, "<p>", "</p>").map_or("", |(heading, _)| heading);
+    tells(
+        &what,
+        heading,
+        heading_of(played, number, !aside.is_empty()),
+    )?;
     let mut must = Vec::new();
     for &other in &named {
         let words = range(&common(played, number, other));
@@ -123,7 +151,6 @@ pub fn check_card(played: &Played, number: u16, article: &str, seen: &mut Seen) 
         let (count, can) = (unused(cells.len()), able(cells, cell_runs));
         must.push(format!("{count} at <code>{}</code>: {can}", range(words)));
     }
-    let aside = between(article, "<aside", "</aside>").map_or("", |(aside, _)| aside);
     let lines = aside.lines().filter_map(|line| line.strip_prefix("<li>"));
     let lines: Vec<&str> = lines
         .filter_map(|line| line.strip_suffix("</li>"))
@@ -140,11 +167,7 @@ fn meet(
     quiet: &[(Range<usize>, Vec<u16>)],
     seen: &mut Seen,
 ) {
-    let warning: Vec<u16> = named
-        .iter()
-        .copied()
-        .filter(|&it| warns(played, number, it))
-        .collect();
+    let warning = warning(played, number);
     let used = warning.iter().any(|&it| played.is_used(it));
     let own = warning.iter().any(|&it| played.same_owner(number, it));
     seen.met("yellow, for a cell in use", used);
@@ -162,21 +185,37 @@ fn meet(
 }
 
 /// With whom the index says that a cell shares words.
-pub fn check_index(played: &Played, number: u16, page: &str) -> Held {
+pub fn check_index(played: &Played, number: u16, page: &str, seen: &mut Seen) -> Held {
     let line = index_line(page, &format!("#cell{number}")).unwrap();
     let (named, quiet) = sharers(played, number);
     let others = named.iter().filter(|&&it| !played.same_owner(number, it));
     let mut must: Vec<String> = others.map(|&it| cell(played, it)).collect();
+    let unowned = played.trace.owners.iter().all(Option::is_none);
+    if must.len() < named.len() {
+        let same = if unowned { "subaddress" } else { "owner" };
+        must.push(format!("the same {same}"));
+    }
     let number_quiet: usize = quiet.iter().map(|it| it.1.len()).sum();
     let s = if number_quiet == 1 { "" } else { "s" };
     if number_quiet > 0 {
         must.push(format!("{number_quiet} cell{s} never used and unowned"));
     }
-    let must = match (must.is_empty(), named.is_empty()) {
-        (true, true) => "nobody".into(),
-        (true, false) => "the same owner".into(),
-        _ => must.join(", "),
-    };
+    if must.is_empty() {
+        must.push("nobody".into());
+    }
+    seen.met(
+        "shared with the same owner",
+        !unowned && must.len() == 1 && must[0].ends_with("owner"),
+    );
+    seen.met(
+        "shared with others and the same owner",
+        !unowned && must[1..].contains(&"the same owner".into()),
+    );
+    seen.met(
+        "shared with the same subaddress of nobody",
+        must.contains(&"the same subaddress".into()),
+    );
+    let must = must.join(", ");
     tells(&format!("index, cell {number}"), line[2], &must)
 }
 

@@ -182,7 +182,7 @@ fn sent_line(played: &Played, done: &Done, group: &[Word]) -> String {
         Some(it) => {
             let bad = !is_good(played.of(it.record));
             let which = match bad {
-                true => format!(", {}", verdict(played.of(it.record))),
+                true => format!(", {},", verdict(played.of(it.record))),
                 false => String::new(),
             };
             let name = cell(played, it.cell);

@@ -2,6 +2,7 @@
 //! and `run --explain`.
 
 use plain_terminal::front::explain::explain;
+use plain_terminal::front::history::History;
 use plain_terminal::front::replay::Replay;
 use plain_terminal::terminal::Record;
 use plain_terminal::text::read_names;
@@ -178,10 +179,11 @@ fn meet(played: &Played, done: &Done, seen: &mut Seen) {
 pub fn explained(played: &Played) -> Vec<Vec<String>> {
     let trace = played.trace;
     let owners = read_names(trace.names().as_bytes()).unwrap().owners;
-    let mut replay = Replay::with_walk(trace.image.clone(), trace.settings);
+    let replay = Replay::with_walk(trace.image.clone(), trace.settings);
+    let mut history = History::new(replay);
     let lines = trace.records.iter().map(|bytes| {
-        let answer = replay.message(bytes);
-        explain(&replay, &owners, bytes, &answer)
+        let (answer, accepted) = history.message(bytes);
+        explain(&history.replay, &owners, bytes, &answer, accepted.as_ref())
     });
     lines.collect()
 }
@@ -245,7 +247,11 @@ fn check_whose(played: &Played, done: &Done, lines: &[String]) -> Held {
             _ => {
                 let whose = word.origin.map_or("is as in the image".into(), |it| {
                     let name = plain_cell(played, it.cell);
-                    format!("came with record {}, for {name}", it.record)
+                    let bad = match verdict(played.of(it.record)).as_str() {
+                        "good" => String::new(),
+                        bad => format!(" {bad},"),
+                    };
+                    format!("came with record {},{bad} for {name}", it.record)
                 });
                 must.push((record, vec![word.address], whose));
             }
