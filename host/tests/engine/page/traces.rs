@@ -8,7 +8,7 @@ use plain_terminal::random::Random;
 use plain_terminal::terminal::cells::RAM_WORDS;
 use plain_terminal::terminal::trace::image_bytes;
 use plain_terminal::terminal::Settings;
-use plain_terminal::text::{read_names, TraceText};
+use plain_terminal::text::read_names;
 
 pub struct Trace {
     pub settings: Settings,
@@ -81,13 +81,10 @@ impl Trace {
 
     /// The trace as the program reads it.
     pub fn source(&self) -> Source {
-        let names = read_names(self.names().as_bytes()).unwrap();
-        let text = TraceText {
-            image: image_bytes(&self.image),
-            records: self.records.concat(),
-            settings: Some(self.settings),
-            ..names
-        };
+        let mut text = read_names(self.names().as_bytes()).unwrap();
+        text.image = image_bytes(&self.image);
+        text.records = self.records.concat();
+        text.settings = Some(self.settings);
         Source::held("random".into(), text)
     }
 }
