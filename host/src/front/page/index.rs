@@ -110,7 +110,8 @@ fn what_it_sent(board: &Board, number: u16, message: &Message) -> String {
         .collect()
 }
 
-/// Those who are owned or used, each of others, and how many more there are.
+/// Each cell of others that is owned or used, whether the same owner has one
+/// there, and how many more there are.
 fn shared_with(board: &Board, number: u16) -> String {
     let sharing = board.sharers(number);
     let others = sharing.named.iter().map(|named| named.cell);
