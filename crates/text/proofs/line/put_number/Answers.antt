@@ -1,0 +1,12 @@
+-- `put_number` meets its contract.
+use native.Mathlib.Omega.{arith}
+use Rattle.text.specs.Text.{decimal_text}
+use Rattle.text.proofs.Runs.{put_out, column_here}
+use Rattle.text.proofs.Numerals.{length_digits, length_decimal}
+use Rattle.text.proofs.line.put_number.Goals as goal
+
+pub returns-else-at-out : goal.returns-else-at-out
+returns-else-at-out c =
+    let far = c in
+    put_out (omega arith) far.if-at-out.false
+    (rw (length_decimal, ← far.places-k.ensures.counted) (omega (arith, c.after.ensures)))
