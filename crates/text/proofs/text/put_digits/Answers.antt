@@ -13,3 +13,13 @@ pub returns : goal.returns
 unfolding digits
 returns c =
     let e : c.loop-i.i ≡ 0 = omega arith in rw e at c.loop-i.invariant.1.0
+
+pub loop-i-preserved : goal.loop-i-preserved
+loop-i-preserved c =
+    let l = c.loop-i in (
+      omega arith,
+      (
+        digits_again _ _ _ _ _ _ c.loop-i-test.true c.put_byte.ensures l.invariant.1.0,
+        c.put_byte.auto.out ∙ l.invariant.1.1,
+      ),
+    )
