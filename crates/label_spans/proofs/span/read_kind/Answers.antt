@@ -1,6 +1,6 @@
 -- `read_kind` meets its contract. The loop's invariant: the spans of the kind's cells below `sub` stand in their places.
 use native.Mathlib.Omega.{arith}
-use mathlib.Core.Path.{◌≡◌, refl}
+use mathlib.Core.Path.{refl}
 use Rattle.words.specs.Fill.{fill_from}
 use Rattle.words.proofs.Fill.{fill_from_more}
 use Rattle.label_spans.proofs.ByKind.{number_on, number_on_below}
