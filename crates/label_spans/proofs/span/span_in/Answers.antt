@@ -8,8 +8,7 @@ use Rattle.label_spans.proofs.span.span_in.Goals as goal
 
 pub overflow_cast-cell_number : goal.overflow_cast-cell_number
 overflow_cast-cell_number c =
-    let begun = c in
-    omega (arith, c.cell_number.ensures, number_below begun.args.kind begun.args.subaddress begun.requires)
+    omega (arith, c.cell_number.ensures, number_below c.args.kind c.args.subaddress c.requires)
 
 pub returns-then-not-is_read : goal.returns-then-not-is_read
 unfolding span_of read_and_sound
