@@ -19,4 +19,4 @@ loop-k-preserved c =
 pub returns : goal.returns
 returns c =
     let e : c.loop-k.k ≡ c.args.count = omega arith in
-    rw e c c.loop-k.invariant.1.1
+    rw e at c.loop-k.invariant.1.1
