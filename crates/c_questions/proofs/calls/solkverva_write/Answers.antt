@@ -1,0 +1,20 @@
+-- `solkverva_write` meets its contract: refused, or the bytes.
+use mathlib.Core.Path.{sym, ap, ◌∙◌}
+use Rattle.layout.specs.declared.writer.Written.{Written}
+use Rattle.c_questions.proofs.Refused.{write_refused}
+use Rattle.c_questions.proofs.calls.solkverva_write.Goals as goal
+
+pub returns-then-w-ne0 : goal.returns-then-w-ne0
+returns-then-w-ne0 c =
+    let put = c in
+    let chosen = put in
+    let wrote = chosen in
+    let w = rw wrote.value_from.ensures at wrote.write-w.ensures in
+    let n = ap (λ (r : Written). r.number) w in record { number = n; bytes = put.put_bytes.ensures ∙ sym (write_refused _ _ (λ z. chosen.if-w-ne0.true (n ∙ z))) }
+
+pub returns : goal.returns
+returns c =
+    let put = c in
+    let chosen = put in
+    let wrote = chosen in
+    let w = rw wrote.value_from.ensures at wrote.write-w.ensures in record { number = sym chosen.if-w-ne0.false ∙ ap (λ (r : Written). r.number) w; bytes = rw (put.put_bytes-2.ensures, w) }

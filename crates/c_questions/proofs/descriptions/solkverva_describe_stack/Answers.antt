@@ -1,0 +1,8 @@
+-- `solkverva_describe_stack` meets its contract.
+use Rattle.c_questions.proofs.descriptions.solkverva_describe_stack.Goals as goal
+
+pub returns : goal.returns
+returns c =
+    let put = c in
+    let l = put.describe_stack-d.ensures in
+    let s = put.settings_from.ensures in record { number = rw (l, s); description = rw (put.put_stack.ensures, l, s) }
