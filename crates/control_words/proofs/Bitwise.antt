@@ -5,7 +5,7 @@ use mathlib.Core.Path.{◌≡◌, refl, sym, ◌∙◌}
 use lib.Bits.{bit_and, bit_or, and_step, or_step, and_zero_l, or_zero_l, block_half, block_odd}
 use lib.Dec.{eqb}
 use Rattle.words.specs.Bits.{bit_of}
-use Rattle.control_words.specs.Flags.{flag_after, is_odd, flags_below, flags_after}
+use Rattle.control_words.specs.Flags.{flag_after, flags_below, flags_after}
 
 -- what the code works out, of n flags
 abbrev together : ℕ → ℕ → ℕ → ℕ → ℕ

@@ -1,5 +1,5 @@
 -- What a message's record tells the conditions. "Message outcomes come from a trace."
-use Rattle.std.specs.Prelude.{ℕ, Bool, not, ◌&&◌, ◌||◌, leb}
+use Rattle.std.specs.Prelude.{Bool, not, ◌&&◌, ◌||◌, leb}
 use Rattle.words.specs.Command.{transmits, count_field, is_mode_subaddress}
 use Rattle.words.specs.Settings.{is_broadcast, program_settings}
 use Rattle.records.specs.declared.value.Record.{Record}

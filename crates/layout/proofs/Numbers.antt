@@ -79,8 +79,8 @@ number_put s i (suc n) x h =
     get_or-set_same p (i + n) low 0 (omega (arith, length_number s i n (x / 256))) in
     let bits : 8 * suc n ≡ 8 * n + 8 = omega arith in
     rw (
+      number_more (put_number s i (suc n) x) i n,
       put_more s i n x,
-      number_more (set p (i + n) low) i n,
       high,
       last,
       number_put s i n (x / 256) (omega arith),

@@ -1,7 +1,7 @@
 -- The cases of the reader and the writer of long records, over plain variables: each way out of the code.
 use Prim.Native.Nat.{ℕ, ◌≤◌}
 use native.Mathlib.Omega.{arith}
-use mathlib.Core.Path.{◌≡◌, refl, sym, ap, ◌∙◌}
+use mathlib.Core.Path.{◌≡◌, sym, ap, ◌∙◌}
 use mathlib.Core.Logic.{⊎_elim}
 use mathlib.Core.Bool.{Bool, true, false, not, or-true}
 use mathlib.Core.List.{List}
@@ -9,7 +9,6 @@ use lib.ListN.{length}
 use lib.Dec.{eqb}
 use lib.Seq.{length-take-le, take_all}
 use borrow.Author.Tests.{eqb-true, eq-eqb, ne_eqb, not-true, not-false}
-use Rattle.records.specs.declared.value.Record.{Record}
 use Rattle.records.specs.Value.{keeps_layout}
 use Rattle.words.specs.Refusal.{first_of}
 use Rattle.words.proofs.Basics.{yes_or_no, eq_or_ne}

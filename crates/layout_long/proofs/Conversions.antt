@@ -15,7 +15,6 @@ use Rattle.layout.specs.declared.writer.Written.{Written}
 use Rattle.layout.specs.Layout.{reader_refusal, read_record}
 use Rattle.layout.proofs.Inverse.{reader_takes}
 use Rattle.layout.proofs.Trips.{read_number}
-use Rattle.layout_long.specs.declared.value.LongRecord.{LongRecord}
 use Rattle.layout_long.specs.declared.reader.LongReading.{LongReading}
 use Rattle.layout_long.specs.declared.writer.LongWritten.{LongWritten}
 use Rattle.layout_long.specs.Long.{old_part, long_in, long_tests, long_refusal, read_long}

@@ -1,5 +1,5 @@
 -- The reader and the writer of long records undo each other: by the laws of any list of fields, behind the old part.
-use Prim.Native.Nat.{ℕ, ◌<◌, ◌≤◌}
+use Prim.Native.Nat.{ℕ, ◌<◌}
 use native.Mathlib.Nat.{mod-eq_of_lt}
 use native.Mathlib.Omega.{arith}
 use mathlib.Core.Path.{◌≡◌, refl, sym, ap, ◌∙◌}
@@ -9,11 +9,10 @@ use mathlib.Core.List.{List}
 use lib.ListN.{length, get_or, replicate, length-append, get_or-append, get_or-eq_default}
 use lib.Seq.{ext_get_or, get_or-take, length-take-le}
 use borrow.Author.Tests.{not-false}
-use Rattle.records.specs.declared.value.Record.{Record}
 use Rattle.records.specs.Value.{keeps_layout, Typed}
 use Rattle.words.proofs.Basics.{lt_or_ge, or_left, or_right}
 use Rattle.layout.specs.Fields.{put_fields}
-use Rattle.layout.specs.Layout.{Bytes, word_at, are_zero, value_in, breaks_layout, read_record}
+use Rattle.layout.specs.Layout.{Bytes, word_at, value_in, breaks_layout}
 use Rattle.layout.specs.Writing.{bytes_of}
 use Rattle.layout.specs.declared.reader.Reading.{Reading}
 use Rattle.layout.proofs.Numbers.{zeros_number, number_zeros}

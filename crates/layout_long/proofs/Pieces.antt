@@ -6,7 +6,7 @@ use mathlib.Core.Path.{◌≡◌, refl, sym, ap, ◌∙◌}
 use mathlib.Core.Logic.{⊎_elim}
 use mathlib.Core.Bool.{Bool, true, false, ◌&&◌}
 use mathlib.Core.List.{List, ◌++◌, append-nil}
-use lib.ListN.{length, get_or, set, take, drop, replicate, get_or-replicate, length-append, get_or-append}
+use lib.ListN.{length, get_or, set, take, drop, replicate, get_or-replicate, get_or-append}
 use lib.Seq.{ext_get_or, get_or-take, get_or-drop, get_or-append-add, get_or-set_other, set-get_or, length-take-le, length_front}
 use lib.Dec.{eqb}
 use borrow.Author.Tests.{eqb-true}

@@ -4,7 +4,7 @@ use Prim.Native.Nat.{ℕ, ◌+◌, ◌-◌, ◌<◌, ◌≤◌}
 use native.Mathlib.Omega.{arith}
 use mathlib.Core.Path.{◌≡◌, refl, sym, ap, ◌∙◌}
 use mathlib.Core.Logic.{◌↔◌, ⊎_elim}
-use mathlib.Core.Bool.{Bool, true, false, not, or-true}
+use mathlib.Core.Bool.{true, false, not}
 use mathlib.Core.List.{List}
 use lib.ListN.{length, get_or, replicate, length-append, get_or-append}
 use lib.Seq.{ext_get_or, get_or-take, take_at}
@@ -15,7 +15,7 @@ use Rattle.words.proofs.Basics.{yes_or_no, eq_or_ne, lt_or_ge, not_both, or_left
 use Rattle.words.proofs.Refusals.{first_at_most}
 use Rattle.layout.specs.declared.reader.Reading.{Reading}
 use Rattle.layout.specs.declared.writer.Written.{Written}
-use Rattle.layout.specs.Layout.{word_at, are_zero, breaks_layout, reader_refusal, read_record}
+use Rattle.layout.specs.Layout.{word_at, are_zero, breaks_layout, reader_refusal}
 use Rattle.layout.proofs.Cases.{read_good}
 use Rattle.layout.proofs.Inverse.{reader_takes}
 use Rattle.layout.proofs.Numbers.{zeros_number, number_zeros}
@@ -23,7 +23,7 @@ use Rattle.layout.proofs.Places.{are_zero_at, are_zero_of}
 use Rattle.layout.proofs.Trips.{read_number}
 use Rattle.layout_long.specs.declared.reader.LongReading.{LongReading}
 use Rattle.layout_long.specs.declared.writer.LongWritten.{LongWritten}
-use Rattle.layout_long.specs.Long.{old_part, long_in, end_zero, breaks_long, long_tests, long_refusal, read_long}
+use Rattle.layout_long.specs.Long.{old_part, long_in, breaks_long, long_tests, long_refusal}
 use Rattle.layout_long.specs.WritingLong.{with_zeros, not_long}
 use Rattle.layout_long.specs.Conversion.{longer_of, loses_number, not_short, shorter_of}
 use Rattle.layout_long.proofs.Pieces.{zeros_behind, end_of_zeros}

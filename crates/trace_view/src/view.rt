@@ -1,5 +1,5 @@
 // A view that holds the caller's trace and a place in it. `next` takes it apart and calls `take_at` on the slice and
-// the number, since a struct that holds a reference is proved by hand.
+// the number.
 ghost use Rattle.std.specs.Prelude.{◌≡◌};
 ghost use Rattle.trace_view.specs.View.{has_record, none_at, taken_at};
 

@@ -21,3 +21,6 @@ part_shifted control Broadcast = omega arith
 
 pub overflow_shr-result : goal.overflow_shr-result
 overflow_shr-result c = omega (arith, shift_small c.args.kind)
+
+pub returns : goal.returns
+returns c = rw c.shift_of.ensures (part_shifted c.args.control c.args.kind)

@@ -10,3 +10,7 @@ returns-then-double c = simp (eq-eqb _ _ c.if-m-eq0.true, c.if-double.true)
 pub returns-then-m-eq0 : goal.returns-then-m-eq0
 unfolding pick_scheme
 returns-then-m-eq0 c = simp (eq-eqb _ _ c.if-m-eq0.true, c.if-double.false)
+
+pub returns : goal.returns
+unfolding pick_scheme
+returns c = rw (ne_eqb _ _ c.if-m-eq0.false, c.size_of.ensures)

@@ -4,6 +4,14 @@ use mathlib.Core.Bool.{and-true, and-false}
 use borrow.Author.Tests.{not-true, not-false}
 use Rattle.cells.proofs.cell.sound_within.Goals as goal
 
+pub returns-then-no : goal.returns-then-no
+returns-then-no c =
+    rw (
+      ← c.fits_below.ensures,
+      not-true c.fits_below.result (sym c.no.ensures ∙ c.if-no.true),
+      and-false,
+    )
+
 pub returns-then-meets_fixed : goal.returns-then-meets_fixed
 returns-then-meets_fixed c = rw (← c.meets_fixed.ensures, c.if-meets_fixed.true, and-false)
 
@@ -15,4 +23,22 @@ returns-then-windows_meet c =
       ← c.meets_fixed.ensures,
       c.if-meets_fixed.false,
       and-false,
+    )
+
+pub returns : goal.returns
+returns c =
+    let d = c in
+    let e = d in
+    let f = e in
+    rw (
+      c.both.ensures,
+      c.double_fits.ensures,
+      ← d.windows_meet.ensures,
+      d.if-windows_meet.false,
+      ← e.meets_fixed.ensures,
+      e.if-meets_fixed.false,
+      and-true,
+      ← f.fits_below.ensures,
+      not-false f.fits_below.result (sym f.no.ensures ∙ f.if-no.false),
+      and-true,
     )

@@ -14,6 +14,6 @@ loop-i-preserved c = (omega arith, rw (within_more, c.both-ok.ensures, c.loop-i.
 pub returns : goal.returns
 returns c =
     let a = c.args in
-    let byte = c.shared_slice_known-1.given in
+    let byte = c.type_inv.s in
     let e : c.loop-i.i ≡ 64 = omega arith in
     rw e at c.loop-i.invariant.1 ∙ within_all a.s.now a.count _ (λ k. omega (arith, byte k)) (omega arith)

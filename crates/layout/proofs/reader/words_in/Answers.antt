@@ -16,7 +16,7 @@ pub loop-i-preserved : goal.loop-i-preserved
 loop-i-preserved c =
     let at = c.loop-i in
     let copied = c.copied_words-words in
-    let byte = c.shared_slice_known-1.given in
+    let byte = c.type_inv.s in
     let s = c.args.s.now in
     let next =
     swap_next s copied.result at.words at.i copied.ensures at.invariant.1 (omega arith)

@@ -11,8 +11,9 @@ use Rattle.layout.proofs.round_trip.read_written.Goals as goal
 pub returns-then-w-ne0 : goal.returns-then-w-ne0
 returns-then-w-ne0 c = search read_written_refused
 
-typed : (c : tie.Start) → Typed c.args.v
-typed c =
+pub returns : goal.returns
+returns c =
+    let t : Typed c.args.v =
     record {
       command = omega arith;
       second = omega arith;
@@ -21,4 +22,5 @@ typed c =
       count = omega arith;
       many = search rules;
       words = λ k. let f : Fits w16 (get_or c.args.v.words k 0) = search rules in f.fits;
-    }
+    } in
+    search read_written_taken

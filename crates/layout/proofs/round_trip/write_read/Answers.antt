@@ -9,5 +9,5 @@ returns-then-r-ne0 c = search write_read_refused
 pub returns : goal.returns
 returns c =
     let b : Bytes c.args.s.now =
-    λ k. (c.shared_slice_known-1.given k).fits in
+    λ k. (c.type_inv.s k).fits in
     search write_read_taken

@@ -1,0 +1,17 @@
+-- `move_pointer` meets its contract: one write, or none.
+use native.Mathlib.Omega.{arith}
+use native.Mathlib.Omega.{arith}
+use Rattle.memory.proofs.Places.{table_low}
+use Rattle.writes.proofs.Carried.{pointer_moved, pointer_kept}
+use Rattle.writes.proofs.carry.move_pointer.Goals as goal
+
+pub overflow_add-lookup_table : goal.overflow_add-lookup_table
+overflow_add-lookup_table c = omega (arith, table_low c.args.s.area)
+
+pub returns-then-d : goal.returns-then-d
+returns-then-d c = let p = c in
+    let k = p in
+    pointer_moved _ _ _ _ _ k.if-d.true k.lookup_table.ensures p.put.ensures
+
+pub returns-else-d : goal.returns-else-d
+returns-else-d c = pointer_kept _ _ _ c.if-d.false

@@ -1,0 +1,23 @@
+-- `store_each` meets its contract. The loop's invariant: the first `k` writes are made.
+use native.Mathlib.Omega.{arith}
+use mathlib.Core.Path.{◌≡◌, refl}
+use Rattle.memory.specs.Rows.{row}
+use Rattle.memory.specs.Writes.{apply_writes}
+use Rattle.memory.proofs.Writes.{apply_more, length_apply}
+use Rattle.writes.proofs.store.store_each.Goals as goal
+
+pub loop-k-init : goal.loop-k-init
+unfolding apply_writes row
+loop-k-init c = (omega arith, refl)
+
+pub loop-k-preserved : goal.loop-k-preserved
+loop-k-preserved c = let p = c in
+    let q = p in
+    let l = q.loop-k in
+    (omega arith, rw (apply_more, p.put.ensures, p.word_at.ensures, q.place.ensures, l.invariant.1))
+
+pub shape_of-ram : goal.shape_of-ram
+shape_of-ram c = rw (c.loop-k.invariant.1, length_apply)
+
+pub returns : goal.returns
+returns c = let e : c.loop-k.k ≡ c.args.n = omega arith in rw e at c.loop-k.invariant.1
