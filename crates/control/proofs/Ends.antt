@@ -1,8 +1,8 @@
 -- How runs end: a step never refuses, so a run's number is the entry point's own.
 use Prim.Native.Nat.{ℕ, zero, suc, ◌+◌, ◌%◌}
-use mathlib.Core.Path.{◌≡◌, refl, sym, ap, ◌∙◌}
+use mathlib.Core.Path.{◌≡◌, refl, sym, ◌∙◌}
 use mathlib.Core.Logic.{⊎_elim}
-use mathlib.Core.Bool.{Bool, true, false, cond}
+use mathlib.Core.Bool.{true, false, cond}
 use mathlib.Core.List.{List}
 use lib.ListN.{get_or}
 use lib.Dec.{leb, eqb}
@@ -14,7 +14,6 @@ use Rattle.control_words.specs.declared.opcode.Operation.TheVariants.{Execute, J
 use Rattle.control_words.specs.OpCode.{operation_of}
 use Rattle.control_words.specs.Condition.{is_due}
 use Rattle.control.specs.declared.machine.Machine.{Machine}
-use Rattle.control.specs.declared.machine.Stand.{Stand}
 use Rattle.control.specs.declared.run.Ran.{Ran}
 use Rattle.control.specs.Machine.{machine_at, is_going, refusal_in}
 use Rattle.control.specs.Step.{has_pair, is_outcome, executed, called, returned, performed, carried_out, step_of}

@@ -1,13 +1,13 @@
 -- What every step and every run keeps: four calls at most, eight flags.
-use Prim.Native.Nat.{ℕ, zero, suc, ◌+◌, ◌-◌, ◌*◌, ◌/◌, ◌%◌, ◌^◌, ◌≤◌, ◌<◌}
+use Prim.Native.Nat.{ℕ, zero, suc, ◌+◌, ◌-◌, ◌/◌, ◌%◌, ◌^◌, ◌≤◌, ◌<◌}
 use native.Mathlib.Omega.{arith}
-use mathlib.Core.Path.{◌≡◌, refl, sym, ap, ◌∙◌}
+use mathlib.Core.Path.{◌≡◌, refl, ◌∙◌}
 use mathlib.Core.Logic.{⊎_elim}
 use mathlib.Core.Bool.{Bool, true, false}
 use mathlib.Core.List.{List}
 use lib.ListN.{length, get_or, set, length-set}
 use lib.Dec.{leb, eqb}
-use borrow.Author.Tests.{leb-true, leb-false, eqb-true, eqb-false}
+use borrow.Author.Tests.{leb-false, eqb-false}
 use Rattle.words.specs.Bits.{bit_of}
 use Rattle.words.proofs.Basics.{yes_or_no}
 use Rattle.trace_view.specs.View.{taken_at}
@@ -21,7 +21,7 @@ use Rattle.control_words.specs.Outcome.{outcome_shown}
 use Rattle.control.specs.declared.machine.Machine.{Machine}
 use Rattle.control.specs.declared.machine.Stand.{Stand}
 use Rattle.control.specs.declared.run.Ran.{Ran}
-use Rattle.control.specs.Machine.{is_going, moved_to, moved_on, called_to, returned_from, flagged_by, heard_of, machine_at, next_pair, standing, going_on}
+use Rattle.control.specs.Machine.{is_going, moved_to, moved_on, called_to, returned_from, flagged_by, heard_of, machine_at, next_pair}
 use Rattle.control.specs.Step.{has_pair, is_outcome, executed, called, returned, performed, carried_out, step_of}
 use Rattle.control.specs.Run.{begun, stepped, advanced, run_from, run_for}
 use Rattle.control.specs.Start.{not_run, start_refusal, started_at, go_on_refusal, gone_on}

@@ -1,13 +1,13 @@
 -- What one step comes to, case by case, from what its parts came to.
 use Prim.Native.Nat.{ℕ, ◌+◌, ◌-◌, ◌≤◌, ◌<◌}
 use native.Mathlib.Omega.{arith}
-use mathlib.Core.Path.{◌≡◌, refl, sym, ◌∙◌}
+use mathlib.Core.Path.{◌≡◌, sym, ◌∙◌}
 use mathlib.Core.Logic.{⊎_elim}
 use mathlib.Core.Bool.{Bool, true, false}
 use mathlib.Core.List.{List}
 use lib.ListN.{length, get_or}
-use lib.Dec.{leb, eqb}
-use borrow.Author.Tests.{le-leb, lt-leb, leb-true, leb-false, eq-eqb, ne_eqb}
+use lib.Dec.{leb}
+use borrow.Author.Tests.{le-leb, lt-leb, leb-true, eq-eqb, ne_eqb}
 use Rattle.words.proofs.Basics.{lt_or_ge}
 use Rattle.trace_view.specs.declared.view.Taken.{Taken}
 use Rattle.trace_view.specs.View.{taken_at}
@@ -20,7 +20,7 @@ use Rattle.control_words.specs.Outcome.{outcome_shown}
 use Rattle.control.specs.declared.machine.Machine.{Machine}
 use Rattle.control.specs.declared.machine.End.TheVariants.{Budget, Bad, NoOutcome, Halt as Halted}
 use Rattle.control.specs.declared.machine.Stand.{Stand}
-use Rattle.control.specs.Machine.{moved_to, moved_on, called_to, returned_from, flagged_by, heard_of, standing, going_on}
+use Rattle.control.specs.Machine.{moved_to, moved_on, called_to, returned_from, flagged_by, heard_of, standing}
 use Rattle.control.specs.Step.{has_pair, is_outcome, executed, called, returned, performed, carried_out, step_of}
 
 -- a place and two more, without a sum that could overflow

@@ -1,25 +1,24 @@
 -- Outcomes used: each message that is executed takes one record, and nothing else does.
-use Prim.Native.Nat.{ℕ, zero, suc, ◌+◌, ◌*◌, ◌≤◌}
+use Prim.Native.Nat.{ℕ, zero, suc, ◌+◌, ◌*◌}
 use native.Mathlib.Omega.{arith}
-use mathlib.Core.Path.{◌≡◌, refl, sym, ap, ◌∙◌}
+use mathlib.Core.Path.{◌≡◌, sym}
 use mathlib.Core.Logic.{⊎_elim}
 use mathlib.Core.Bool.{Bool, true, false, cond, ◌&&◌, true≢false}
 use mathlib.Core.List.{List}
-use lib.ListN.{length, get_or}
+use lib.ListN.{get_or}
 use lib.Dec.{leb, eqb}
 use Rattle.words.specs.Bits.{bit_of}
 use Rattle.words.proofs.Basics.{yes_or_no}
 use Rattle.trace_view.specs.View.{has_record, none_at, taken_at}
 use Rattle.control_words.specs.declared.opcode.Operation.{Operation}
 use Rattle.control_words.specs.declared.opcode.Operation.TheVariants.{Execute, Jump, Call, Return, Halt, Flag, Unknown}
-use Rattle.control_words.specs.OpCode.{op_code_number, operation_of}
+use Rattle.control_words.specs.OpCode.{operation_of}
 use Rattle.control_words.specs.Condition.{is_due}
 use Rattle.control.specs.declared.machine.Machine.{Machine}
-use Rattle.control.specs.declared.machine.Stand.{Stand}
 use Rattle.control.specs.declared.run.Ran.{Ran}
 use Rattle.control.specs.Machine.{is_going, moved_to, moved_on, called_to, returned_from, flagged_by, heard_of, going_on}
 use Rattle.control.specs.Step.{has_pair, is_outcome, executed, called, returned, performed, carried_out, step_of}
-use Rattle.control.specs.Run.{begun, stepped, advanced, run_from, run_for}
+use Rattle.control.specs.Run.{stepped, advanced, run_from}
 use Rattle.control.specs.Executed.{is_execute, executes_at, executed_to}
 
 -- an outcome is 80 bytes

@@ -1,5 +1,5 @@
 -- The controller's machine: what stands between two instructions, how an instruction moves it, and how a run ends.
-use Rattle.std.specs.Prelude.{ℕ, ◌+◌, ◌-◌, Bool, true, false, List, get_or, set, replicate}
+use Rattle.std.specs.Prelude.{ℕ, ◌+◌, ◌-◌, Bool, true, false, get_or, set, replicate}
 use Rattle.control_words.specs.declared.condition.Outcome.{Outcome}
 use Rattle.control_words.specs.Condition.{no_outcome}
 use Rattle.control_words.specs.Flags.{flags_after}

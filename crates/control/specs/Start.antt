@@ -1,5 +1,5 @@
 -- The entry points' refusals: "Refusals: 1, then 15 for a start address with fewer than two words left."
-use Rattle.std.specs.Prelude.{ℕ, ◌+◌, ◌%◌, Bool, not, cond, List, [], ◌∷◌, length, eqb}
+use Rattle.std.specs.Prelude.{ℕ, ◌%◌, not, cond, List, [], ◌∷◌, length, eqb}
 use Rattle.words.specs.Number.{ram_length}
 use Rattle.control_words.specs.Number.{no_room_to_start}
 use Rattle.words.specs.Refusal.{Test, ◌when◌, first_of}

@@ -1,0 +1,49 @@
+-- `perform_long` meets its contract: the number of the long record's reader, and else the message of its old part.
+use mathlib.Core.Path.{◌≡◌, sym, ap, ◌∙◌}
+use Rattle.layout.specs.declared.reader.Reading.{Reading}
+use Rattle.layout_long.specs.Long.{read_old}
+use Rattle.layout_long.proofs.Cases.{old_value}
+use Rattle.memory.specs.State.{state_of}
+use Rattle.message.specs.Heard.{heard_long}
+use Rattle.message.proofs.InTurn.{stops_early, stops_record}
+use Rattle.message.proofs.FromLong.{long_record_number}
+use Rattle.message.proofs.Performing.{heard_refused, heard_performed}
+use Rattle.message.proofs.long.perform_long.Goals as goal
+
+pub returns-then-early-ne0 : goal.returns-then-early-ne0
+returns-then-early-ne0 c = let all =
+    let a = c.args in
+    let h = heard_long a.bytes.now in
+    let x = state_of a.ram.now a.reply.now a.before in
+    let m = c.if-early-ne0.true in
+    heard_refused a.s h a.before a.ram.now a.reply.now _
+    (stops_early a.s h x _ c.early_refusal-early.ensures m)
+    m in
+    record { performed = all.0; ram = all.1.0; reply = all.1.1 }
+
+pub returns-then-reading-ne0 : goal.returns-then-reading-ne0
+returns-then-reading-ne0 c = let all =
+    let t = c in
+    let a = t.args in
+    let h = heard_long a.bytes.now in
+    let x = state_of a.ram.now a.reply.now a.before in
+    let passed = sym t.early_refusal-early.ensures ∙ t.if-early-ne0.false in
+    let m = c.if-reading-ne0.true in
+    let e = long_record_number a.bytes.now ∙ ap (λ (r : Reading). r.number) (sym c.read_old-reading.ensures) in
+    heard_refused a.s h a.before a.ram.now a.reply.now _ (stops_record a.s h x passed _ e m) m in
+    record { performed = all.0; ram = all.1.0; reply = all.1.1 }
+
+pub returns : goal.returns
+returns c = let all =
+    let k = c in
+    let t = k in
+    let a = t.args in
+    let h = heard_long a.bytes.now in
+    let passed = sym t.early_refusal-early.ensures ∙ t.if-early-ne0.false in
+    let e = k.read_old-reading.ensures in
+    let good = k.if-reading-ne0.false in
+    let taken : (read_old a.bytes.now).number ≡ 0 = rw (← e) good in
+    let same = ap (λ (r : Reading). r.value) e ∙ old_value a.bytes.now taken in
+    heard_performed a.s h a.before a.ram.now a.reply.now passed (long_record_number a.bytes.now ∙ taken)
+    _ same _ _ _ (k.perform.ensures.performed, (k.perform.ensures.ram, k.perform.ensures.reply)) in
+    record { performed = all.0; ram = all.1.0; reply = all.1.1 }

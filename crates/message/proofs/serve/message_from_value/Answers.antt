@@ -1,0 +1,11 @@
+-- `message_from_value` meets its contract: what was performed, told.
+use Rattle.message.specs.Heard.{heard_value}
+use Rattle.message.proofs.Performing.{told}
+use Rattle.message.proofs.serve.message_from_value.Goals as goal
+
+pub returns : goal.returns
+returns c = let all =
+    let k = c in
+    let a = k.args in
+    told a.s (heard_value a.v) a.before a.ram.now a.reply.now _ _ _ (k.perform_value-performed.ensures.performed, (k.perform_value-performed.ensures.ram, k.perform_value-performed.ensures.reply)) _ c.tell.ensures in
+    record { answer = all.0; state = all.1 }
