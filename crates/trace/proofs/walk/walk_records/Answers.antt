@@ -19,3 +19,15 @@ returns c =
     let e : c.loop-i.i ≡ length c.args.trace.now / 80 = omega arith in
     let t = rw e at c.loop-i.invariant.1.0 in
     let text = stands_text _ _ _ _ (omega arith) t in record { back = stands_back t text; ram = λ i. (t.state i).ram; reply = λ i. (t.state i).reply; out = text.bytes }
+
+pub loop-i-preserved : goal.loop-i-preserved
+loop-i-preserved c =
+    let l = c.loop-i in
+    let kept = c.walk_one-w.auto in
+    let n = l.invariant.1.1 in (
+      omega arith,
+      (
+        stands_more _ _ _ _ l.invariant.1.0 c.walk_one-w.ensures (record_between c.args.trace.now l.i),
+        (kept.ram ∙ n.0, (kept.reply ∙ n.1.0, kept.out ∙ n.1.1)),
+      ),
+    )
