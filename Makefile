@@ -1,14 +1,11 @@
 # The two commands of the README, and what they are made of.
 .PHONY: demo test compare bench fmt
 
-# Proofs and trials of wrong programs run four at a time, so that no processor waits for the slowest of a pair.
-export RT_JOBS ?= 4
-
 # Samples on the proved terminal, with the columns explained, and a page.
 demo:
 	@scripts/demo
 
-# Every test. The last step is the toolchain's gate, so its last line, 'N passed, 0 failed', is the last line printed.
+# Every test. The last line printed is that of the toolchain's gate, 'N passed, 0 failed'.
 test:
 	@scripts/test
 
@@ -21,5 +18,5 @@ bench:
 	@scripts/bench
 
 fmt:
-	@rt fmt
+	@for crate in crates/*/; do (cd "$$crate" && rt fmt) || exit; done
 	@scripts/cargo fmt

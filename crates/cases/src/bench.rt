@@ -10,7 +10,7 @@ use records::value::Record;
 use words::remembered::Remembered;
 use words::settings::{Area, Settings};
 
-#[derive(Drop)]
+#[derive(Clone, Copy)]
 pub(crate) struct Bench {
     pub settings: Settings,
     pub remembered: Remembered,

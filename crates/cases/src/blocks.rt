@@ -13,18 +13,19 @@ use words::command::subaddress;
 use words::settings::settings_refused;
 
 // A pointer that moves on by `k` words, in a block of `size`.
-pub(crate) fn moved(pointer: u16, size: u16, k: u16) {
+pub(crate) fn moved(rt: &HostRuntime, pointer: u16, size: u16, k: u16) {
     let w = aligned_around(pointer, size);
     let to = place(w, k) % 65536;
     let rollover = rolls_over(w, k) as u16;
     show(
+        rt,
         b" from $ to $ rollover ?",
         [w.start, to as u16, rollover, 0, 0, 0, 0, 0, 0],
     );
 }
 
 // The cell that a command uses, with another pointer if the line has two numbers.
-pub(crate) fn cell(ram: &[u16], b: Bench, n: Numbers) {
+pub(crate) fn cell(rt: &HostRuntime, ram: &[u16], b: Bench, n: Numbers) {
     let s = b.settings;
     let area = s.area;
     let kind = kind_of(s, n.a);
@@ -34,6 +35,7 @@ pub(crate) fn cell(ram: &[u16], b: Bench, n: Numbers) {
     let scheme = c.scheme;
     let window = window_of(scheme, c.pointer);
     show(
+        rt,
         b" cell % pointer $ window $ size % end ? circular ? sound ?",
         [
             number as u16,
@@ -51,7 +53,7 @@ pub(crate) fn cell(ram: &[u16], b: Bench, n: Numbers) {
 
 // The number and the cell of the whole-area check, in area A without and with separate-broadcast, and in area B with
 // it; whether the stack is sound, and whether the settings are refused.
-pub(crate) fn check(ram: &[u16], b: Bench) {
+pub(crate) fn check(rt: &HostRuntime, ram: &[u16], b: Bench) {
     let s = b.settings;
     let lent = front_of(ram, b.ram);
     let joined = pick(s.broadcast, 0xD, 0x10D);
@@ -62,6 +64,7 @@ pub(crate) fn check(ram: &[u16], b: Bench) {
     let stack = stack_sound(lent, s) as u16;
     let refused = settings_refused(s) as u16;
     show(
+        rt,
         b" A % % separate % % B % % stack sound ? settings refused ?",
         [
             x.number, x.cell, y.number, y.cell, z.number, z.cell, stack, refused, 0,

@@ -4,8 +4,9 @@ use memory::map::{is_busy_at, is_illegal_at};
 use words::command;
 use words::settings::{Settings, is_broadcast, is_not_ours, is_own};
 
-pub(crate) fn command(ram: &[u16], s: Settings, w: u16) {
+pub(crate) fn command(rt: &HostRuntime, ram: &[u16], s: Settings, w: u16) {
     show(
+        rt,
         b" address % transmit ? subaddress % count field % words % mode ? own ? broadcast ? not ours ?",
         [
             command::address(w),
@@ -22,5 +23,9 @@ pub(crate) fn command(ram: &[u16], s: Settings, w: u16) {
     let own = !is_broadcast(s, w);
     let busy = is_busy_at(ram, own, w) as u16;
     let illegal = is_illegal_at(ram, own, w) as u16;
-    show(b" busy ? illegal ?", [busy, illegal, 0, 0, 0, 0, 0, 0, 0]);
+    show(
+        rt,
+        b" busy ? illegal ?",
+        [busy, illegal, 0, 0, 0, 0, 0, 0, 0],
+    );
 }

@@ -15,7 +15,7 @@ use records::value::Record;
 use words::bits::bit_of;
 
 // The operation of the first number, and whether it is due with the flags and the last message that follow.
-pub(crate) fn opcode(n: Numbers) {
+pub(crate) fn opcode(rt: &HostRuntime, n: Numbers) {
     let o = operation_of(n.a);
     let last = Outcome {
         no_status: n.c % 2 == 1,
@@ -24,14 +24,15 @@ pub(crate) fn opcode(n: Numbers) {
     };
     let is_due = due(o, n.a, n.b, last) as u16;
     show(
+        rt,
         b" op code % due ?",
         [op_code_number(o), is_due, 0, 0, 0, 0, 0, 0, 0],
     );
 }
 
 // The flags of the first number after the second as an FLG instruction's parameter.
-pub(crate) fn flags(n: Numbers) {
-    show(b" $", [flags_after(n.a, n.b), 0, 0, 0, 0, 0, 0, 0, 0]);
+pub(crate) fn flags(rt: &HostRuntime, n: Numbers) {
+    show(rt, b" $", [flags_after(n.a, n.b), 0, 0, 0, 0, 0, 0, 0, 0]);
 }
 
 // What the last message tells, its three yes or no added up.
@@ -39,8 +40,9 @@ fn last_number(o: Outcome) -> u16 {
     bit_of(o.no_status) + 2 * bit_of(o.other_fault) + 4 * bit_of(o.good_transfer)
 }
 
-pub(crate) fn outcome(v: Record) {
+pub(crate) fn outcome(rt: &HostRuntime, v: Record) {
     show(
+        rt,
         b" %",
         [last_number(outcome_shown(v)), 0, 0, 0, 0, 0, 0, 0, 0],
     );
@@ -63,11 +65,12 @@ fn trace_of(v: Record, changed: bool, place: u16, byte: u16) -> [u8; 640] {
 }
 
 // How a run ended, its steps, and the machine that it left.
-fn told(b: Bench, r: Ran) -> Bench {
+fn told(rt: &HostRuntime, b: Bench, r: Ran) -> Bench {
     let end = r.end;
     let m = r.machine;
     let last = m.last;
     show(
+        rt,
         b" % end % steps % at $ flags $ last % depth % place %\n",
         [
             refusal_in(end),
@@ -87,7 +90,7 @@ fn told(b: Bench, r: Ran) -> Bench {
 }
 
 // A run from a start address: start, flags, budget, and how many bytes the trace has.
-pub(crate) fn control(ram: &[u16], b: Bench, n: Numbers) -> Bench {
+pub(crate) fn control(rt: &HostRuntime, ram: &[u16], b: Bench, n: Numbers) -> Bench {
     let v = b.record;
     let trace = trace_of(v, n.count == 6, n.e, n.f);
     let r = start_at(
@@ -97,14 +100,14 @@ pub(crate) fn control(ram: &[u16], b: Bench, n: Numbers) -> Bench {
         n.b,
         n.c as u64,
     );
-    told(b, r)
+    told(rt, b, r)
 }
 
 // One that goes on from what the last run left: budget, and how many bytes the trace has.
-pub(crate) fn on(ram: &[u16], b: Bench, n: Numbers) -> Bench {
+pub(crate) fn on(rt: &HostRuntime, ram: &[u16], b: Bench, n: Numbers) -> Bench {
     let v = b.record;
     let m = b.machine;
     let trace = trace_of(v, n.count == 4, n.c, n.d);
     let r = go_on(front_of(ram, b.ram), front(&trace, n.b), m, n.a as u64);
-    told(b, r)
+    told(rt, b, r)
 }

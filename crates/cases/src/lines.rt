@@ -7,7 +7,7 @@ use words::choose::either;
 
 // A line as far as it is read: its name, its numbers from 1 on, how many there are, whether a space came last, its end,
 // and where the next one begins.
-#[derive(Drop)]
+#[derive(Clone, Copy)]
 pub(crate) struct Line {
     pub name: u64,
     pub numbers: [u16; 8],
@@ -18,7 +18,7 @@ pub(crate) struct Line {
 }
 
 // The numbers of a whole line. Those that it leaves out are 0.
-#[derive(Drop)]
+#[derive(Clone, Copy)]
 pub(crate) struct Numbers {
     pub a: u16,
     pub b: u16,

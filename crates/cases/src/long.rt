@@ -31,7 +31,7 @@ pub(crate) fn long_of(v: Record, n: Numbers) -> [u8; 160] {
 }
 
 // The reader's number, upper half and member, and the numbers of going back and of going on.
-pub(crate) fn read(v: Record, n: Numbers) {
+pub(crate) fn read(rt: &HostRuntime, v: Record, n: Numbers) {
     let s = long_of(v, n);
     let bytes = front(&s, n.a);
     let r = read_long(bytes);
@@ -39,6 +39,7 @@ pub(crate) fn read(v: Record, n: Numbers) {
     let back = shorter(bytes);
     let on = longer(front(bytes, 80));
     show(
+        rt,
         b" % $ member % back % on %",
         [
             r.number,

@@ -19,10 +19,12 @@ mod reading;
 mod script;
 mod show;
 
-fn main() {
+use streams::input::fill;
+
+fn main(rt: HostRuntime) {
     let mut text = [0u8; 131072];
-    let n = io::read_full(0, &mut text);
+    let n = fill(&rt, &mut text).got;
     let mut ram = [0u16; 65792];
     let mut reply = [0u16; 64];
-    script::run(&text[..n], &mut ram, &mut reply);
+    script::run(&rt, &text[..n], &mut ram, &mut reply);
 }

@@ -6,25 +6,27 @@ use crate::names::RECORD;
 use crate::ram::front;
 use crate::reading;
 use crate::reading::bytes_of;
-use crate::show::{show, word};
+use crate::show::{show, tell, word};
 use message::answer::Outcome;
 use message::long::message_from_long;
 use message::serve::{message_from_bytes, message_from_value};
 
 // The columns of a trace line, then the cell's number and what is remembered.
-fn outcome(o: Outcome) {
+fn outcome(rt: &HostRuntime, o: Outcome) {
     let a = o.answer;
     let r = o.remembered;
     show(
+        rt,
         b" % $ $ $ ",
         [a.number, a.block_status, a.before, a.after, 0, 0, 0, 0, 0],
     );
     if a.answered {
-        word(a.status);
+        word(rt, a.status);
     } else {
-        io::write_all(1, b"none");
+        tell(rt, b"none");
     }
     show(
+        rt,
         b" % $ cell % remembers $ $\n",
         [a.sent, a.interrupt, a.cell, r.command, r.status, 0, 0, 0, 0],
     );
@@ -47,6 +49,7 @@ pub(crate) fn served(ram: &mut [u16], reply: &mut [u16], b: Bench, n: u16) -> Ou
 
 // A message made from the line's numbers.
 pub(crate) fn message(
+    rt: &HostRuntime,
     ram: &mut [u16; 65792],
     reply: &mut [u16; 64],
     b: Bench,
@@ -54,30 +57,42 @@ pub(crate) fn message(
 ) -> Bench {
     let next = built(b, RECORD, n);
     let o = served(ram, reply, next, 1);
-    outcome(o);
+    outcome(rt, o);
     after(next, o)
 }
 
 // The record at hand, as bytes: as many as the first number says.
-pub(crate) fn bytes(ram: &mut [u16], reply: &mut [u16], b: Bench, n: Numbers) -> Bench {
+pub(crate) fn bytes(
+    rt: &HostRuntime,
+    ram: &mut [u16],
+    reply: &mut [u16],
+    b: Bench,
+    n: Numbers,
+) -> Bench {
     let s = b.settings;
     let r = b.remembered;
     let v = b.record;
     let record = bytes_of(v, n);
     let bytes = reading::front(&record, n.a);
     let o = message_from_bytes(front(ram, b.ram), front(reply, b.room), s, r, bytes);
-    outcome(o);
+    outcome(rt, o);
     after(b, o)
 }
 
 // The record at hand as a long one: as many bytes as the first number says.
-pub(crate) fn heard(ram: &mut [u16], reply: &mut [u16], b: Bench, n: Numbers) -> Bench {
+pub(crate) fn heard(
+    rt: &HostRuntime,
+    ram: &mut [u16],
+    reply: &mut [u16],
+    b: Bench,
+    n: Numbers,
+) -> Bench {
     let s = b.settings;
     let r = b.remembered;
     let v = b.record;
     let record = long_of(v, n);
     let bytes = reading::front(&record, n.a);
     let o = message_from_long(front(ram, b.ram), front(reply, b.room), s, r, bytes);
-    outcome(o);
+    outcome(rt, o);
     after(b, o)
 }

@@ -17,13 +17,14 @@ fn answer_before(number: u16) -> Who {
 }
 
 // The numbers of the answer, and where the replay stands.
-fn standing(at: Standing) {
+fn standing(rt: &HostRuntime, at: Standing) {
     let who = at.who;
     let r = at.remembered;
     let told = values_of(who);
     let last = (told.last % 65536) as u16;
     let count = (at.number % 65536) as u16;
     show(
+        rt,
         b" % record % part % cell % place % after % remembers $ $\n",
         [
             told.number,
@@ -41,7 +42,7 @@ fn standing(at: Standing) {
 
 // The question about the first number, after an answer that the second refused, if there is one, and after as many
 // records as the third says.
-pub(crate) fn part(ram: &mut [u16], b: Bench, n: Numbers) -> Bench {
+pub(crate) fn part(rt: &HostRuntime, ram: &mut [u16], b: Bench, n: Numbers) -> Bench {
     let s = b.settings;
     let remembered = b.remembered;
     let written = layout::writer::write(b.record);
@@ -53,7 +54,7 @@ pub(crate) fn part(ram: &mut [u16], b: Bench, n: Numbers) -> Bench {
         who,
     };
     let end = go_on(front(ram, b.ram), s, n.a, at, &bytes);
-    standing(end);
+    standing(rt, end);
     let mut next = b;
     let r = end.remembered;
     next.remembered = r;

@@ -1,7 +1,7 @@
 // Two messages that are neighbours, in one order: what each does, and whether they may change places.
 use crate::lines::Numbers;
 use crate::ram::front;
-use crate::show::show;
+use crate::show::{show, tell};
 use exchange_asked::neighbours::may_exchange;
 use memory::ram::word_at;
 use message::serve::message_from_value;
@@ -24,29 +24,29 @@ fn heard(command: u16, word: u16) -> Record {
 }
 
 // What a receive brought, or the first word that a transmit sent. No answer depends on what is remembered.
-fn one(ram: &mut [u16], s: Settings, command: u16, word: u16) {
+fn one(rt: &HostRuntime, ram: &mut [u16], s: Settings, command: u16, word: u16) {
     let mut reply = [0u16; 33];
     let v = heard(command, word);
     message_from_value(front(ram, 4096), &mut reply, s, nothing_remembered(), v);
     if word == 0 {
-        show(b" $ sends $", [command, reply[1], 0, 0, 0, 0, 0, 0, 0]);
+        show(rt, b" $ sends $", [command, reply[1], 0, 0, 0, 0, 0, 0, 0]);
     } else {
-        show(b" $ brings $", [command, word, 0, 0, 0, 0, 0, 0, 0]);
+        show(rt, b" $ brings $", [command, word, 0, 0, 0, 0, 0, 0, 0]);
     }
 }
 
 // One after the other in a copy of RAM, what a place then holds, and whether they may change places.
-pub(crate) fn order(start: [u16; 65792], s: Settings, n: Numbers) {
+pub(crate) fn order(rt: &HostRuntime, start: [u16; 65792], s: Settings, n: Numbers) {
     let mut ram = start;
     let may = may_exchange(&ram, s, heard(n.a, n.b), heard(n.c, n.d));
-    one(&mut ram, s, n.a, n.b);
-    io::write_all(1, b",");
-    one(&mut ram, s, n.c, n.d);
+    one(rt, &mut ram, s, n.a, n.b);
+    tell(rt, b",");
+    one(rt, &mut ram, s, n.c, n.d);
     let end = word_at(&ram, n.e as usize);
-    show(b": $ ends as $", [n.e, end, 0, 0, 0, 0, 0, 0, 0]);
+    show(rt, b": $ ends as $", [n.e, end, 0, 0, 0, 0, 0, 0, 0]);
     if may {
-        io::write_all(1, b"; they may change places");
+        tell(rt, b"; they may change places");
     } else {
-        io::write_all(1, b"; they may not change places");
+        tell(rt, b"; they may not change places");
     }
 }

@@ -1,5 +1,5 @@
 // Runs of words, in RAM, in the reply and in a record.
-use crate::show::word;
+use crate::show::{tell, word};
 use memory::ram::{put, word_at};
 use std::num::wrapping_add_u16;
 
@@ -30,11 +30,11 @@ pub(crate) fn fill(ram: &mut [u16], from: u16, n: u16, first: u16, step: u16) {
     }
 }
 
-pub(crate) fn shown(ram: &[u16], from: u16, n: u16) {
+pub(crate) fn shown(rt: &HostRuntime, ram: &[u16], from: u16, n: u16) {
     let mut i: u16 = 0;
     while i < n {
-        io::write_all(1, b" ");
-        word(word_at(ram, (from as usize) + (i as usize)));
+        tell(rt, b" ");
+        word(rt, word_at(ram, (from as usize) + (i as usize)));
         i += 1;
     }
 }

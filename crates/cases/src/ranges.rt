@@ -3,6 +3,7 @@ use crate::bench::Bench;
 use crate::lines::Numbers;
 use crate::names::LEGAL;
 use crate::reading::{bytes_of, front};
+use crate::show::decimal;
 use memory::map::is_illegal_at;
 use records::value::Record;
 use std::num::wrapping_add_u16;
@@ -30,11 +31,11 @@ fn answer(ram: &[u16], b: Bench, name: u64, n: Numbers, i: u16) -> u16 {
 }
 
 // From the line's first number on, as many as its second says.
-pub(crate) fn answers(ram: &[u16], b: Bench, name: u64, n: Numbers) {
+pub(crate) fn answers(rt: &HostRuntime, ram: &[u16], b: Bench, name: u64, n: Numbers) {
     let mut i = n.a;
     let mut left = n.b;
     while 0 < left {
-        io::print_decimal(1, answer(ram, b, name, n, i) as u64);
+        decimal(rt, answer(ram, b, name, n, i) as u64);
         i = wrapping_add_u16(i, 1);
         left -= 1;
     }

@@ -1,7 +1,7 @@
 // The record at hand: read, written, and both round trips.
 use crate::lines::Numbers;
 use crate::ram::shown;
-use crate::show::{show, word};
+use crate::show::{show, tell, word};
 use layout::reader::{Reading, join};
 use layout::writer::Written;
 use records::transfer::{bad_second, is_transfer, no_status, wrong_gap};
@@ -34,9 +34,10 @@ pub(crate) fn front(bytes: &[u8], n: u16) -> &[u8] {
 }
 
 // Of a transfer: its transmit command, and its flags one by one.
-fn transfer(v: Record) {
+fn transfer(rt: &HostRuntime, v: Record) {
     if is_transfer(v) {
         show(
+            rt,
             b" transfer from $ no status ? gap ? second ?",
             [
                 v.transmit_command,
@@ -54,9 +55,10 @@ fn transfer(v: Record) {
 }
 
 // Number, command, tag, flags and count, the flags one by one, what a transfer has, and the words.
-fn reading(r: Reading) {
+fn reading(rt: &HostRuntime, r: Reading) {
     let v = r.value;
     show(
+        rt,
         b" % $ $ % % bus B ? sync ? invalid ?",
         [
             r.number,
@@ -70,35 +72,35 @@ fn reading(r: Reading) {
             0,
         ],
     );
-    transfer(v);
-    io::write_all(1, b":");
+    transfer(rt, v);
+    tell(rt, b":");
     let words = v.words;
-    shown(&words, 0, 32);
+    shown(rt, &words, 0, 32);
 }
 
 // Number and all eighty bytes.
-fn written(w: Written) {
+fn written(rt: &HostRuntime, w: Written) {
     let bytes = w.bytes;
-    show(b" % ", [w.number, 0, 0, 0, 0, 0, 0, 0, 0]);
+    show(rt, b" % ", [w.number, 0, 0, 0, 0, 0, 0, 0, 0]);
     let mut i: usize = 0;
     while i < 40 {
-        word(join(bytes[2 * i], bytes[2 * i + 1]));
+        word(rt, join(bytes[2 * i], bytes[2 * i + 1]));
         i += 1;
     }
 }
 
 // Written; and that, read back.
-pub(crate) fn write(v: Record) {
-    written(layout::writer::write(v));
-    io::write_all(1, b"\n    read back:");
-    reading(layout::round_trip::read_written(v));
+pub(crate) fn write(rt: &HostRuntime, v: Record) {
+    written(rt, layout::writer::write(v));
+    tell(rt, b"\n    read back:");
+    reading(rt, layout::round_trip::read_written(v));
 }
 
 // Its bytes, read; and that, written back.
-pub(crate) fn read(v: Record, n: Numbers) {
+pub(crate) fn read(rt: &HostRuntime, v: Record, n: Numbers) {
     let s = bytes_of(v, n);
     let bytes = front(&s, n.a);
-    reading(layout::reader::read(bytes));
-    io::write_all(1, b"\n    written back:");
-    written(layout::round_trip::write_read(bytes));
+    reading(rt, layout::reader::read(bytes));
+    tell(rt, b"\n    written back:");
+    written(rt, layout::round_trip::write_read(bytes));
 }

@@ -1,7 +1,7 @@
 // The script, line by line.
 use crate::bench::Bench;
 use crate::lines::{Numbers, numbers_of, read_line};
-use crate::show::show;
+use crate::show::{show, tell};
 use crate::{
     bench, blocks, commands, controller, long, messages, names, origins, pairs, ram, ranges,
     reading,
@@ -9,26 +9,35 @@ use crate::{
 use memory::ram::put;
 
 // A line that asks, whose answer stands behind it.
-fn asked(memory: &[u16], reply: &[u16], b: Bench, name: u64, n: Numbers, number: u16) {
+fn asked(
+    rt: &HostRuntime,
+    memory: &[u16],
+    reply: &[u16],
+    b: Bench,
+    name: u64,
+    n: Numbers,
+    number: u16,
+) {
     let s = b.settings;
     let v = b.record;
     match name {
-        names::COMMAND => commands::command(memory, s, n.a),
-        names::READ => reading::read(v, n),
-        names::WRITE => reading::write(v),
-        names::LONG => long::read(v, n),
-        names::OPCODE => controller::opcode(n),
-        names::FLAGS => controller::flags(n),
-        names::OUTCOME => controller::outcome(v),
+        names::COMMAND => commands::command(rt, memory, s, n.a),
+        names::READ => reading::read(rt, v, n),
+        names::WRITE => reading::write(rt, v),
+        names::LONG => long::read(rt, v, n),
+        names::OPCODE => controller::opcode(rt, n),
+        names::FLAGS => controller::flags(rt, n),
+        names::OUTCOME => controller::outcome(rt, v),
         names::LEGAL | names::LENGTHS | names::PLACES => {
-            io::write_all(1, b" ");
-            ranges::answers(memory, b, name, n);
+            tell(rt, b" ");
+            ranges::answers(rt, memory, b, name, n);
         }
-        names::BLOCK => blocks::moved(n.a, n.b, n.c),
-        names::CELL => blocks::cell(memory, b, n),
-        names::RAM => ram::shown(memory, n.a, n.b),
-        names::REPLY => ram::shown(reply, n.a, n.b),
+        names::BLOCK => blocks::moved(rt, n.a, n.b, n.c),
+        names::CELL => blocks::cell(rt, memory, b, n),
+        names::RAM => ram::shown(rt, memory, n.a, n.b),
+        names::REPLY => ram::shown(rt, reply, n.a, n.b),
         _ => show(
+            rt,
             b" line % is not understood",
             [number, 0, 0, 0, 0, 0, 0, 0, 0],
         ),
@@ -37,6 +46,7 @@ fn asked(memory: &[u16], reply: &[u16], b: Bench, name: u64, n: Numbers, number:
 
 // A line that is printed, with its answer. A check has a word put first, if there is one.
 fn answered(
+    rt: &HostRuntime,
     text: &[u8],
     memory: &mut [u16; 65792],
     reply: &mut [u16; 64],
@@ -45,33 +55,34 @@ fn answered(
     n: Numbers,
     number: u16,
 ) -> Bench {
-    io::write_all(1, text);
-    io::write_all(1, b":");
+    tell(rt, text);
+    tell(rt, b":");
     match name {
-        names::MESSAGE => return messages::message(memory, reply, b, n),
-        names::BYTES => return messages::bytes(memory, reply, b, n),
-        names::PART => return origins::part(memory, b, n),
-        names::HEARD => return messages::heard(memory, reply, b, n),
-        names::CONTROL => return controller::control(memory, b, n),
-        names::ON => return controller::on(memory, b, n),
+        names::MESSAGE => return messages::message(rt, memory, reply, b, n),
+        names::BYTES => return messages::bytes(rt, memory, reply, b, n),
+        names::PART => return origins::part(rt, memory, b, n),
+        names::HEARD => return messages::heard(rt, memory, reply, b, n),
+        names::CONTROL => return controller::control(rt, memory, b, n),
+        names::ON => return controller::on(rt, memory, b, n),
         names::ORDER => {
             let s = b.settings;
-            pairs::order(*memory, s, n);
+            pairs::order(rt, *memory, s, n);
         }
         names::CHECK => {
             if n.count == 2 {
                 put(memory, n.a as usize, n.b);
             }
-            blocks::check(memory, b);
+            blocks::check(rt, memory, b);
         }
-        _ => asked(memory, reply, b, name, n, number),
+        _ => asked(rt, memory, reply, b, name, n, number),
     }
-    io::write_all(1, b"\n");
+    tell(rt, b"\n");
     b
 }
 
 // A line that builds what a case needs, or a heading. Any other is printed, with its answer.
 fn done(
+    rt: &HostRuntime,
     text: &[u8],
     memory: &mut [u16; 65792],
     reply: &mut [u16; 64],
@@ -83,8 +94,8 @@ fn done(
     match name {
         0 => {}
         names::HEADING => {
-            io::write_all(1, text);
-            io::write_all(1, b"\n");
+            tell(rt, text);
+            tell(rt, b"\n");
         }
         names::PUT => put(memory, n.a as usize, n.b),
         names::FILL => ram::fill(memory, n.a, n.b, n.c, n.d),
@@ -93,12 +104,12 @@ fn done(
             return bench::built(b, name, n);
         }
         names::AGAIN => return bench::after(b, messages::served(memory, reply, b, n.a)),
-        _ => return answered(text, memory, reply, b, name, n, number),
+        _ => return answered(rt, text, memory, reply, b, name, n, number),
     }
     b
 }
 
-pub(crate) fn run(text: &[u8], memory: &mut [u16; 65792], reply: &mut [u16; 64]) {
+pub(crate) fn run(rt: &HostRuntime, text: &[u8], memory: &mut [u16; 65792], reply: &mut [u16; 64]) {
     let mut b = bench::cleared(memory, reply);
     let mut at: usize = 0;
     let mut number: u16 = 0;
@@ -107,6 +118,7 @@ pub(crate) fn run(text: &[u8], memory: &mut [u16; 65792], reply: &mut [u16; 64])
         let line = read_line(text, at);
         let end = line.end;
         b = done(
+            rt,
             &text[at..end],
             memory,
             reply,

@@ -2,35 +2,46 @@
 // or no.
 ghost use Rattle.std.specs.Prelude.{◌≤◌};
 
+use std::io::Print;
+
+// Bytes as they are. Where they cannot be written, what is stored shows it.
+pub(crate) fn tell(rt: &HostRuntime, bytes: &[u8]) {
+    rt.write_all(bytes).unwrap_or(());
+}
+
+pub(crate) fn decimal(rt: &HostRuntime, n: u64) {
+    rt.print(n).unwrap_or(());
+}
+
 // The last hexadecimal digit of a number.
 pub(crate) fn digit(n: u16) -> u8 {
     let d = (n % 16) as u8;
     if d < 10 { 48 + d } else { 55 + d }
 }
 
-pub(crate) fn word(w: u16) {
+pub(crate) fn word(rt: &HostRuntime, w: u16) {
     let four = [digit(w / 4096), digit(w / 256), digit(w / 16), digit(w)];
-    io::write_all(1, &four);
+    tell(rt, &four);
 }
 
 // One byte of a form, and how many values it used up.
-fn piece(b: u8, value: u16) -> usize
+fn piece(rt: &HostRuntime, b: u8, value: u16) -> usize
     ensures { result ≤ 1 }
 {
     match b {
         b'%' => {
-            io::print_decimal(1, value as u64);
+            decimal(rt, value as u64);
         }
-        b'$' => word(value),
+        b'$' => word(rt, value),
         b'?' => {
             if value == 0 {
-                io::write_all(1, b"no");
+                tell(rt, b"no");
             } else {
-                io::write_all(1, b"yes");
+                tell(rt, b"yes");
             }
         }
         _ => {
-            io::write_all(1, &[b]);
+            tell(rt, &[b]);
             return 0;
         }
     }
@@ -38,11 +49,11 @@ fn piece(b: u8, value: u16) -> usize
 }
 
 // The form, with the values in their order.
-pub(crate) fn show(form: &[u8], values: [u16; 9]) {
+pub(crate) fn show(rt: &HostRuntime, form: &[u8], values: [u16; 9]) {
     let mut used: usize = 0;
     let mut i: usize = 0;
     while i < form.len() {
-        used += piece(form[i], values[used % 9]);
+        used += piece(rt, form[i], values[used % 9]);
         i += 1;
     }
 }

@@ -24,27 +24,27 @@ fn put_text(ram: &mut [u16], out: &mut [u8], image: &[u8], got: usize) -> usize
 }
 
 // Prints text that is all in the buffer.
-fn print_all(out: &[u8], used: usize)
+fn print_all(rt: &HostRuntime, out: &[u8], used: usize)
     requires { used ≤ length out.now }
 {
-    print(out, used, true);
+    print(rt, out, used, true);
 }
 
 // Nothing is printed where reading failed.
-fn label(ram: &mut [u16], out: &mut [u8], image: &mut [u8])
+fn label(rt: &HostRuntime, ram: &mut [u16], out: &mut [u8], image: &mut [u8])
     requires { 350000 ≤ length out.old }
 {
-    let filled = fill(image);
+    let filled = fill(rt, image);
     if filled.failed {
         return;
     }
     let used = put_text(ram, out, image, filled.got);
-    print_all(out, used);
+    print_all(rt, out, used);
 }
 
-fn main() {
+fn main(rt: HostRuntime) {
     let mut ram = [0u16; 4096];
     let mut image = [0u8; 8192];
     let mut out = [0u8; 350000];
-    label(&mut ram, &mut out, &mut image);
+    label(&rt, &mut ram, &mut out, &mut image);
 }

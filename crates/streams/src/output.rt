@@ -1,8 +1,8 @@
 // Standard output. Whether all went well so far is handed through, so that nothing is printed after a failure.
 ghost use Rattle.std.specs.Prelude.{◌≡◌, ◌&&◌, min, length};
-ghost use Rattle.io.specs.Counts.{IsPrefixLen};
+ghost use Rattle.std.specs.Counts.{IsPrefixLen};
 
-use libc::{STDERR_FILENO, STDOUT_FILENO};
+use std::io::Print;
 use words::choose::smaller;
 
 // How far text of this length reaches into the buffer.
@@ -13,22 +13,22 @@ fn reach(out: &[u8], used: usize) -> usize
 }
 
 // Writes the front of the buffer. Answers whether it could.
-fn write_front(out: &[u8], used: usize) -> bool {
+fn write_front(rt: &HostRuntime, out: &[u8], used: usize) -> bool {
     let end = reach(out, used);
-    let written = io::write_all(STDOUT_FILENO, &out[..end]);
+    let written = rt.write_all(&out[..end]).is_ok();
     if !written {
-        io::write_all(STDERR_FILENO, b"writing failed\n");
+        eprint!(rt; "writing failed\n").unwrap_or(());
     }
     written
 }
 
 // Prints the text at the front of the buffer, as far as the buffer reaches. Answers whether all went well so far: where
 // something failed before, nothing is printed. What else the answer is is for the system to say.
-pub fn print(out: &[u8], used: usize, well: bool) -> bool
+pub fn print(rt: &HostRuntime, out: &[u8], used: usize, well: bool) -> bool
     ensures { result ≡ (well && result) }
 {
     if well {
-        return write_front(out, used);
+        return write_front(rt, out, used);
     }
     false
 }

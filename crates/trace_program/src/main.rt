@@ -28,15 +28,16 @@ struct Standing {
 }
 
 // Prints text that is all in the buffer. Answers whether all went well so far.
-fn print_all(out: &[u8], used: usize, well: bool) -> bool
+fn print_all(rt: &HostRuntime, out: &[u8], used: usize, well: bool) -> bool
     requires { used ≤ length out.now }
 {
-    print(out, used, well)
+    print(rt, out, used, well)
 }
 
 // Fills the buffer, walks its whole records and writes their lines. A short fill is the end of the input, or reading
 // failed.
 fn refill(
+    rt: &HostRuntime,
     ram: &mut [u16],
     reply: &mut [u16],
     buffer: &mut [u8],
@@ -45,7 +46,7 @@ fn refill(
 ) -> Standing
     requires { length buffer.old ≤ length out.old }
 {
-    let filled = fill(buffer);
+    let filled = fill(rt, buffer);
     let got = filled.got;
     let before = at.remembered;
     let w = walk(
@@ -57,7 +58,7 @@ fn refill(
         at.number,
         &buffer[..got],
     );
-    let written = print_all(out, w.used, at.well);
+    let written = print_all(rt, out, w.used, at.well);
     let remembered = w.remembered;
     Standing {
         remembered,
@@ -70,7 +71,7 @@ fn refill(
 
 // A proved loop has to end, and nothing says that an input does. So it counts down from a number that no run uses up.
 // No end line follows where reading or writing failed.
-fn run(ram: &mut [u16], reply: &mut [u16], buffer: &mut [u8], out: &mut [u8])
+fn run(rt: &HostRuntime, ram: &mut [u16], reply: &mut [u16], buffer: &mut [u8], out: &mut [u8])
     requires { (length buffer.old ≤ length out.old) × (100 ≤ length out.old) }
 {
     let remembered = nothing_remembered();
@@ -83,17 +84,18 @@ fn run(ram: &mut [u16], reply: &mut [u16], buffer: &mut [u8], out: &mut [u8])
     };
     let mut turns = u64::MAX;
     while turns > 0 && at.more {
-        at = refill(ram, reply, buffer, out, at);
+        at = refill(rt, ram, reply, buffer, out, at);
         turns -= 1;
     }
     if at.well {
         let used = put_last_lines(out, at.left, at.number);
-        print_all(out, used, true);
+        print_all(rt, out, used, true);
     }
 }
 
 // The image, and then the trace.
 fn image_and_trace(
+    rt: &HostRuntime,
     ram: &mut [u16],
     reply: &mut [u16],
     image: &mut [u8],
@@ -102,26 +104,26 @@ fn image_and_trace(
 )
     requires { (length buffer.old ≤ length out.old) × (100 ≤ length out.old) }
 {
-    let filled = fill(image);
+    let filled = fill(rt, image);
     if filled.failed {
         return;
     }
     let got = filled.got;
     if got < image.len() {
         let used = put_image_line(out, got);
-        print_all(out, used, true);
+        print_all(rt, out, used, true);
         return;
     }
     load_image(ram, image);
-    run(ram, reply, buffer, out);
+    run(rt, ram, reply, buffer, out);
 }
 
 // The buffer holds 819 records, and their lines are shorter.
-fn main() {
+fn main(rt: HostRuntime) {
     let mut ram = [0u16; 4096];
     let mut reply = [0u16; 33];
     let mut image = [0u8; 8192];
     let mut buffer = [0u8; 65520];
     let mut out = [0u8; 65520];
-    image_and_trace(&mut ram, &mut reply, &mut image, &mut buffer, &mut out);
+    image_and_trace(&rt, &mut ram, &mut reply, &mut image, &mut buffer, &mut out);
 }

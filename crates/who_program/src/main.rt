@@ -25,9 +25,15 @@ struct Replayed {
 }
 
 // Fills the buffer and replays its whole records. A short fill is the end of the input, or reading failed.
-fn refill(ram: &mut [u16], buffer: &mut [u8], address: u16, w: Replayed) -> Replayed {
+fn refill(
+    rt: &HostRuntime,
+    ram: &mut [u16],
+    buffer: &mut [u8],
+    address: u16,
+    w: Replayed,
+) -> Replayed {
     let before = w.at;
-    let filled = fill(buffer);
+    let filled = fill(rt, buffer);
     let got = filled.got;
     let at = go_on(ram, program_settings(), address, before, &buffer[..got]);
     Replayed {
@@ -39,7 +45,7 @@ fn refill(ram: &mut [u16], buffer: &mut [u8], address: u16, w: Replayed) -> Repl
 
 // A proved loop has to end, and nothing says that an input does. So it counts down from a number that no run uses up.
 // Nothing is printed where reading failed.
-fn replay(ram: &mut [u16], buffer: &mut [u8], out: &mut [u8], address: u16) {
+fn replay(rt: &HostRuntime, ram: &mut [u16], buffer: &mut [u8], out: &mut [u8], address: u16) {
     let at = begin();
     let mut w = Replayed {
         at,
@@ -48,59 +54,67 @@ fn replay(ram: &mut [u16], buffer: &mut [u8], out: &mut [u8], address: u16) {
     };
     let mut turns = u64::MAX;
     while turns > 0 && w.more {
-        w = refill(ram, buffer, address, w);
+        w = refill(rt, ram, buffer, address, w);
         turns -= 1;
     }
     if w.well {
         let end = w.at;
         let who = end.who;
         let used = put_who_line(out, 0, address, who);
-        print(out, used, true);
+        print(rt, out, used, true);
     }
 }
 
 // The image, and then the trace.
 fn image_and_trace(
+    rt: &HostRuntime,
     ram: &mut [u16],
     image: &mut [u8],
     buffer: &mut [u8],
     out: &mut [u8],
     address: u16,
 ) {
-    let filled = fill(image);
+    let filled = fill(rt, image);
     if filled.failed {
         return;
     }
     let got = filled.got;
     if got < image.len() {
         let used = put_image_line(out, got);
-        print(out, used, true);
+        print(rt, out, used, true);
         return;
     }
     load_image(ram, image);
-    replay(ram, buffer, out, address);
+    replay(rt, ram, buffer, out, address);
 }
 
 // The address, and then the image.
-fn who(ram: &mut [u16], line: &mut [u8], image: &mut [u8], buffer: &mut [u8], out: &mut [u8]) {
-    let filled = fill(line);
+fn who(
+    rt: &HostRuntime,
+    ram: &mut [u16],
+    line: &mut [u8],
+    image: &mut [u8],
+    buffer: &mut [u8],
+    out: &mut [u8],
+) {
+    let filled = fill(rt, line);
     if filled.failed {
         return;
     }
     let asked = read_address(line);
     if asked.there {
-        image_and_trace(ram, image, buffer, out, asked.address);
+        image_and_trace(rt, ram, image, buffer, out, asked.address);
         return;
     }
-    print(b"address\n", 8, true);
+    print(rt, b"address\n", 8, true);
 }
 
 // The buffer holds 819 records; a line has at most 103 bytes (`line-room` of who_text).
-fn main() {
+fn main(rt: HostRuntime) {
     let mut ram = [0u16; 4096];
     let mut line = [0u8; 5];
     let mut image = [0u8; 8192];
     let mut buffer = [0u8; 65520];
     let mut out = [0u8; 103];
-    who(&mut ram, &mut line, &mut image, &mut buffer, &mut out);
+    who(&rt, &mut ram, &mut line, &mut image, &mut buffer, &mut out);
 }

@@ -1,0 +1,26 @@
+// The function of `c_message_bytes` for callers in C and Rust: it calls the library's function of its name and
+// says what that says. The C header is include/solkverva.h.
+
+#![tactic(auto)]
+
+ghost use Rattle.std.specs.Prelude.{◌≡◌};
+ghost use Rattle.message.specs.Heard.{heard_bytes};
+ghost use Rattle.c_words.specs.Setup.{settings_from};
+ghost use Rattle.c_words_messages.specs.Call.{lent_of, call_number, lent_after};
+
+// One message from record bytes. The number is the result; the answer's words, the number first, and the remembered
+// state are put over what is lent.
+#[unsafe(no_mangle)]
+pub extern "C" fn solkverva_message(
+    ram: &mut [u16],
+    reply: &mut [u16],
+    settings: &[u16],
+    remembered: &mut [u16],
+    bytes: &[u8],
+    answer: &mut [u16],
+) -> u16
+    ensures number { result ≡ call_number (settings_from settings.now) (heard_bytes bytes.now) (lent_of ram.old reply.old remembered.old answer.old) }
+    ensures lent { lent_of ram.new reply.new remembered.new answer.new ≡ lent_after (settings_from settings.now) (heard_bytes bytes.now) (lent_of ram.old reply.old remembered.old answer.old) }
+{
+    c_message_bytes::from_bytes::solkverva_message(ram, reply, settings, remembered, bytes, answer)
+}

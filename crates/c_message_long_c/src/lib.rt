@@ -1,0 +1,28 @@
+// The function of `c_message_long` for callers in C and Rust: it calls the library's function of its name and
+// says what that says. The C header is include/solkverva.h.
+
+#![tactic(auto)]
+
+ghost use Rattle.std.specs.Prelude.{◌≡◌};
+ghost use Rattle.message.specs.Heard.{heard_long};
+ghost use Rattle.c_words.specs.Setup.{settings_from};
+ghost use Rattle.c_words_messages.specs.Call.{lent_of, call_number, lent_after};
+
+// One message from the bytes of a long record. The number is the result; the answer's words, the number first, and the remembered
+// state are put over what is lent.
+#[unsafe(no_mangle)]
+pub extern "C" fn solkverva_message_long(
+    ram: &mut [u16],
+    reply: &mut [u16],
+    settings: &[u16],
+    remembered: &mut [u16],
+    bytes: &[u8],
+    answer: &mut [u16],
+) -> u16
+    ensures number { result ≡ call_number (settings_from settings.now) (heard_long bytes.now) (lent_of ram.old reply.old remembered.old answer.old) }
+    ensures lent { lent_of ram.new reply.new remembered.new answer.new ≡ lent_after (settings_from settings.now) (heard_long bytes.now) (lent_of ram.old reply.old remembered.old answer.old) }
+{
+    c_message_long::from_long::solkverva_message_long(
+        ram, reply, settings, remembered, bytes, answer,
+    )
+}
