@@ -1,5 +1,5 @@
 -- A label on shared pages (document 02, request 1): for one cell, and for the whole area.
-use Rattle.std.specs.Prelude.{ℕ, Bool, true, false, not, cond, ◌&&◌, List, [], ◌∷◌, ◌++◌, map, length, replicate, eqb}
+use Rattle.std.specs.Prelude.{ℕ, Bool, false, not, cond, ◌&&◌, List, [], ◌∷◌, ◌++◌, map, length, replicate, eqb}
 use Rattle.std.proofs.lemmas.List.Edits.{sets}
 use Rattle.words.specs.declared.settings.Settings.{Settings}
 use Rattle.words.specs.Number.{unsound_cell}

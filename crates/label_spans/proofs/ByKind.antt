@@ -1,14 +1,13 @@
 -- The spans of all cells, filled in kind by kind: thirty-two numbers after the other.
-use Prim.Native.Nat.{ℕ, zero, suc, ◌+◌, ◌*◌, ◌<◌}
+use Prim.Native.Nat.{ℕ, zero, suc, ◌+◌, ◌<◌}
 use native.Mathlib.Nat.{add-zero, zero-add}
 use native.Mathlib.Omega.{arith}
-use mathlib.Core.Path.{◌≡◌, refl, sym, ◌∙◌}
+use mathlib.Core.Path.{◌≡◌, sym, ◌∙◌}
 use mathlib.Core.List.{List}
-use lib.ListN.{set}
 use Rattle.words.specs.declared.settings.Settings.{Settings}
 use Rattle.words.specs.Fill.{fill_from, fill}
 use Rattle.memory.specs.declared.kind.Kind.{Kind}
-use Rattle.memory.specs.Kind.{kind_number, cell_number}
+use Rattle.memory.specs.Kind.{cell_number}
 use Rattle.memory.proofs.Numbers.{number_sub, number_kind, number_below}
 use Rattle.cells.specs.Cell.{cell_at}
 use Rattle.area.specs.Area.{cell_numbered}

@@ -83,8 +83,8 @@ module _ (ram : List ℕ) (s : Settings) where
     unfolding lines_of area_text area_lines area_answer
     area_printed h =
         let g = sym area_number ∙ h in
-        let Label-is = e ∙ sym (area_listed ram s (ground_refusal ram s) refl g) in
-        rw (Label-is, pairs_taken g, pairs_lines, run_taken (replicate 90 0) (unsound_cells ram s) (unsound_most ram s), eq-eqb _ _ g)
+        let label_is = e ∙ sym (area_listed ram s (ground_refusal ram s) refl g) in
+        rw (label_is, pairs_taken g, pairs_lines, run_taken (replicate 90 0) (unsound_cells ram s) (unsound_most ram s), eq-eqb _ _ g)
 
     pub area_refused_text : (label.number ≡ 0 → ⊥) → refused_line label.number ≡ area_text ram s
     unfolding area_text
@@ -111,11 +111,11 @@ module _ (ram : List ℕ) (s : Settings) where
     cell_printed h =
         let g = sym cell_number_lem ∙ h in
         let listed = meeting_cells ram s cell in
-        let Label-is = e ∙ sym (cell_listed ram s cell (cell_refusal ram s cell) refl g) in
+        let label_is = e ∙ sym (cell_listed ram s cell (cell_refusal ram s cell) refl g) in
         let n : length (map sharer_numbered listed) ≡ length listed = length-map listed sharer_numbered in
         let taken : take (length listed) (sets (replicate 89 no_sharer) 0 (map sharer_numbered listed)) ≡ map sharer_numbered listed =
         rw (← n) (run_taken (replicate 89 no_sharer) (map sharer_numbered listed) (omega (arith, meeting_most ram s cell))) in
-        rw (Label-is, taken, lines_map (meet_line (sharer_numbered cell)) sharer_numbered listed, eq-eqb _ _ g)
+        rw (label_is, taken, lines_map (meet_line (sharer_numbered cell)) sharer_numbered listed, eq-eqb _ _ g)
 
     pub cell_refused_text : (label.number ≡ 0 → ⊥) → refused_line label.number ≡ one_cell_text ram s cell
     unfolding one_cell_text

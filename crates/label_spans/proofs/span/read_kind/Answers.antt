@@ -1,6 +1,6 @@
 -- `read_kind` meets its contract. The loop's invariant: the spans of the kind's cells below `sub` stand in their places.
 use native.Mathlib.Omega.{arith}
-use mathlib.Core.Path.{◌≡◌, refl}
+use mathlib.Core.Path.{refl}
 use Rattle.words.specs.Fill.{fill_from}
 use Rattle.words.proofs.Fill.{fill_from_more}
 use Rattle.label_spans.proofs.ByKind.{number_on, number_on_below}
@@ -12,33 +12,27 @@ loop-sub-init c = (omega arith, refl, refl)
 
 pub overflow_add-starts : goal.overflow_add-starts
 overflow_add-starts c =
-    let at = c in
-    omega (arith, at.cell_number-first.ensures, number_on_below at.args.kind at.loop-sub.sub (omega arith))
+    omega (arith, c.cell_number-first.ensures, number_on_below c.args.kind c.loop-sub.sub (omega arith))
 
 pub offset_bounds-starts-first : goal.offset_bounds-starts-first
 offset_bounds-starts-first c =
-    let at = c in
-    omega (arith, at.cell_number-first.ensures, number_on_below at.args.kind at.loop-sub.sub (omega arith))
+    omega (arith, c.cell_number-first.ensures, number_on_below c.args.kind c.loop-sub.sub (omega arith))
 
 pub bounds-starts-first : goal.bounds-starts-first
 bounds-starts-first c =
-    let at = c in
-    omega (arith, at.cell_number-first.ensures, number_on_below at.args.kind at.loop-sub.sub (omega arith))
+    omega (arith, c.cell_number-first.ensures, number_on_below c.args.kind c.loop-sub.sub (omega arith))
 
 pub overflow_add-ends : goal.overflow_add-ends
 overflow_add-ends c =
-    let at = c in
-    omega (arith, at.cell_number-first.ensures, number_on_below at.args.kind at.loop-sub.sub (omega arith))
+    omega (arith, c.cell_number-first.ensures, number_on_below c.args.kind c.loop-sub.sub (omega arith))
 
 pub offset_bounds-ends-first : goal.offset_bounds-ends-first
 offset_bounds-ends-first c =
-    let at = c in
-    omega (arith, at.cell_number-first.ensures, number_on_below at.args.kind at.loop-sub.sub (omega arith))
+    omega (arith, c.cell_number-first.ensures, number_on_below c.args.kind c.loop-sub.sub (omega arith))
 
 pub bounds-ends-first : goal.bounds-ends-first
 bounds-ends-first c =
-    let at = c in
-    omega (arith, at.cell_number-first.ensures, number_on_below at.args.kind at.loop-sub.sub (omega arith))
+    omega (arith, c.cell_number-first.ensures, number_on_below c.args.kind c.loop-sub.sub (omega arith))
 
 pub loop-sub-preserved : goal.loop-sub-preserved
 loop-sub-preserved c =

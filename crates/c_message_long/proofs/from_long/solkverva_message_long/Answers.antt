@@ -1,0 +1,14 @@
+-- `solkverva_message_long` meets its contract: the message, with settings and state from plain words.
+use Rattle.c_words_messages.proofs.Called.{called}
+use Rattle.c_message_long.proofs.from_long.solkverva_message_long.Goals as goal
+
+pub returns : goal.returns
+returns c =
+    let m = c.remembered_from-m.ensures in
+    let s = c.settings_from-s.ensures in
+    let p = c.perform_long-performed.ensures in
+    let back = c.hand_back.ensures in
+    let all =
+    called _ _ _ _ _ _ _ _ _ (rw (s, m) at p.performed) (rw (s, m) at p.ram) (rw (s, m) at p.reply)
+    back.number back.remembered back.answer in
+    record { number = all.0; lent = all.1 }

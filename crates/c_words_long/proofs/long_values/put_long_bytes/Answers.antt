@@ -1,0 +1,21 @@
+-- `put_long_bytes` meets its contract. The loop's invariant: the first `k` bytes are put.
+use borrow.Author.Rules.{rules}
+use native.Mathlib.Omega.{arith}
+use mathlib.Core.Path.{refl, ◌∙◌}
+use Rattle.words.specs.Fill.{fill_from}
+use Rattle.words.proofs.Fill.{fill_more}
+use Rattle.c_words.proofs.Room.{put_all}
+use Rattle.c_words_long.proofs.long_values.put_long_bytes.Goals as goal
+
+pub loop-k-init : goal.loop-k-init
+unfolding fill_from
+loop-k-init c = (omega arith, (refl, refl))
+
+pub loop-k-preserved : goal.loop-k-preserved
+loop-k-preserved c = (omega arith, (search rules, rw (fill_more, ← c.loop-k.invariant.1.1)))
+
+pub returns : goal.returns
+returns c =
+    let a = c.args in
+    c.loop-k.invariant.1.1
+    ∙ put_all 0 a.xs.now a.bytes c.loop-k.k 96 (search rules) (omega arith) (omega arith)

@@ -1,0 +1,8 @@
+-- `copy_number` meets its contract.
+use native.Mathlib.Omega.{arith}
+use Rattle.text.proofs.Runs.{put_then}
+use Rattle.text.proofs.columns.copy_number.Goals as goal
+
+pub returns : goal.returns
+returns c =
+    let digits = c in record { put = put_then digits.write_byte-digits.ensures digits.put_few.ensures.put; near = omega arith }

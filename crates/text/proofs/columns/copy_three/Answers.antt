@@ -1,0 +1,12 @@
+-- `copy_three` meets its contract.
+use native.Mathlib.Omega.{arith}
+use Rattle.text.specs.Line.{three_words}
+use Rattle.text.proofs.Runs.{put_then}
+use Rattle.text.proofs.columns.copy_three.Goals as goal
+
+pub returns : goal.returns
+unfolding three_words
+returns c =
+    let third = c in
+    let second = third in
+    let first = second in record { put = put_then (put_then first.copy_word-second.ensures.put second.copy_word-third.ensures.put) third.copy_word.ensures.put; near = omega arith }

@@ -1,0 +1,24 @@
+-- `digit_of` meets its contract: the first bound that holds.
+use borrow.Author.Tests.{lt-ltb, le-ltb}
+use Rattle.who_text.specs.Address.{digit_of}
+use Rattle.who_text.proofs.address.digit_of.Goals as goal
+
+pub returns-then-b-lt48 : goal.returns-then-b-lt48
+unfolding digit_of
+returns-then-b-lt48 c = rw (lt-ltb _ _ c.if-b-lt48.true)
+
+pub returns-then-b-lt58 : goal.returns-then-b-lt58
+unfolding digit_of
+returns-then-b-lt58 c = rw (le-ltb _ _ c.if-b-lt48.false, lt-ltb _ _ c.if-b-lt58.true)
+
+pub returns-then-b-lt65 : goal.returns-then-b-lt65
+unfolding digit_of
+returns-then-b-lt65 c = rw (le-ltb _ _ c.if-b-lt48.false, le-ltb _ _ c.if-b-lt58.false, lt-ltb _ _ c.if-b-lt65.true)
+
+pub returns-then-b-lt71 : goal.returns-then-b-lt71
+unfolding digit_of
+returns-then-b-lt71 c = rw (le-ltb _ _ c.if-b-lt48.false, le-ltb _ _ c.if-b-lt58.false, le-ltb _ _ c.if-b-lt65.false, lt-ltb _ _ c.if-b-lt71.true)
+
+pub returns-else-b-lt71 : goal.returns-else-b-lt71
+unfolding digit_of
+returns-else-b-lt71 c = rw (le-ltb _ _ c.if-b-lt48.false, le-ltb _ _ c.if-b-lt58.false, le-ltb _ _ c.if-b-lt65.false, le-ltb _ _ c.if-b-lt71.false)

@@ -1,0 +1,10 @@
+-- `put_pointer` meets its contract.
+use Rattle.text.proofs.Runs.{put_then}
+use Rattle.who_text.specs.Line.{pointer_text}
+use Rattle.who_text.proofs.line.put_pointer.Goals as goal
+
+pub returns : goal.returns
+unfolding pointer_text
+returns c =
+    let cell = c in
+    put_then cell.put_bytes-whose.ensures cell.put_cell_name.ensures

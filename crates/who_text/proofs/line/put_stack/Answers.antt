@@ -1,0 +1,10 @@
+-- `put_stack` meets its contract.
+use Rattle.text.proofs.Runs.{put_then}
+use Rattle.who_text.specs.Line.{stack_text}
+use Rattle.who_text.proofs.line.put_stack.Goals as goal
+
+pub returns : goal.returns
+unfolding stack_text
+returns c =
+    let name = c in
+    put_then name.put_bytes-which.ensures name.put_stack_name.ensures
