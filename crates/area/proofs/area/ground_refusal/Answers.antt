@@ -10,10 +10,9 @@ returns-then-ram_refused c = simp (← c.ram_refused.ensures, c.if-ram_refused.t
 pub returns-then-settings_refused : goal.returns-then-settings_refused
 unfolding ground_refusal first_of
 returns-then-settings_refused c =
-    let first = c in
     simp (
-      ← first.ram_refused.ensures,
-      first.if-ram_refused.false,
+      ← c.ram_refused.ensures,
+      c.if-ram_refused.false,
       ← c.settings_refused.ensures,
       c.if-settings_refused.true,
     )
@@ -21,13 +20,11 @@ returns-then-settings_refused c =
 pub returns-then-no : goal.returns-then-no
 unfolding ground_refusal first_of
 returns-then-no c =
-    let second = c in
-    let first = second in
     simp (
-      ← first.ram_refused.ensures,
-      first.if-ram_refused.false,
-      ← second.settings_refused.ensures,
-      second.if-settings_refused.false,
+      ← c.ram_refused.ensures,
+      c.if-ram_refused.false,
+      ← c.settings_refused.ensures,
+      c.if-settings_refused.false,
       ← c.stack_sound.ensures,
       ← c.no.ensures,
       c.if-no.true,
@@ -36,13 +33,11 @@ returns-then-no c =
 pub returns : goal.returns
 unfolding ground_refusal first_of
 returns c =
-    let second = c in
-    let first = second in
     simp (
-      ← first.ram_refused.ensures,
-      first.if-ram_refused.false,
-      ← second.settings_refused.ensures,
-      second.if-settings_refused.false,
+      ← c.ram_refused.ensures,
+      c.if-ram_refused.false,
+      ← c.settings_refused.ensures,
+      c.if-settings_refused.false,
       ← c.stack_sound.ensures,
       ← c.no.ensures,
       c.if-no.false,

@@ -11,27 +11,22 @@ loop-sub-init c = ((omega arith, omega arith), c.requires.1)
 
 pub overflow_cast-result : goal.overflow_cast-result
 overflow_cast-result c =
-    let k = c in
-    omega (arith, c.cell_number.ensures, number_below k.args.kind k.loop-sub.sub (omega arith))
+    omega (arith, c.cell_number.ensures, number_below c.args.kind c.loop-sub.sub (omega arith))
 
 pub returns-then-not-sound_cell : goal.returns-then-not-sound_cell
 returns-then-not-sound_cell c =
-    let k = c in
-    let f = c in
     let b =
-    kind_bad _ _ _ _ _ _ _ k.requires.0 (omega arith) (omega arith) f.cell_at-c.ensures
-    f.sound_cell.ensures in
+    kind_bad _ _ _ _ _ _ _ c.requires.0 (omega arith) (omega arith) c.cell_at-c.ensures
+    c.sound_cell.ensures in
     c.cell_number.ensures
-    ∙ sym (kind_found _ _ _ _ _ (omega arith) (omega arith) k.loop-sub.invariant.1 (rw c.if-not-sound_cell.true at b))
+    ∙ sym (kind_found _ _ _ _ _ (omega arith) (omega arith) c.loop-sub.invariant.1 (rw c.if-not-sound_cell.true at b))
 
 pub loop-sub-preserved : goal.loop-sub-preserved
 loop-sub-preserved c =
-    let k = c in
-    let f = c in
     let b =
-    kind_bad _ _ _ _ _ _ _ k.requires.0 (omega arith) (omega arith) f.cell_at-c.ensures
-    f.sound_cell.ensures in
-    ((omega arith, omega arith), kind_on _ _ _ _ _ k.loop-sub.invariant.1 (rw c.if-not-sound_cell.false at b))
+    kind_bad _ _ _ _ _ _ _ c.requires.0 (omega arith) (omega arith) c.cell_at-c.ensures
+    c.sound_cell.ensures in
+    ((omega arith, omega arith), kind_on _ _ _ _ _ c.loop-sub.invariant.1 (rw c.if-not-sound_cell.false at b))
 
 pub returns : goal.returns
 returns c =

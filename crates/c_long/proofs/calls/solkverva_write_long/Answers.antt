@@ -3,5 +3,4 @@ use Rattle.c_long.proofs.calls.solkverva_write_long.Goals as goal
 
 pub returns : goal.returns
 returns c =
-    let wrote = c in
-    let w = rw wrote.long_from.ensures at wrote.write_long-w.ensures in record { number = rw w; bytes = rw (c.put_long_bytes.ensures, w) }
+    let w = rw c.long_from.ensures at c.write_long-w.ensures in record { number = rw w; bytes = rw (c.put_long_bytes.ensures, w) }

@@ -5,8 +5,6 @@ use Rattle.c_questions.proofs.calls.solkverva_label_cell.Goals as goal
 
 pub returns : goal.returns
 returns c =
-    let put = c in
-    let found = put in
-    let s = found.settings_from.ensures in
-    let counted = rw s at found.find_sharers-found.ensures.counted in
-    let numbers = rw s at found.find_sharers-found.ensures.numbers in record { number = found_number _ _ _ _ counted; listing = put.put_found.ensures ∙ found_words _ _ _ _ counted _ _ numbers }
+    let s = c.settings_from.ensures in
+    let counted = rw s at c.find_sharers-found.ensures.counted in
+    let numbers = rw s at c.find_sharers-found.ensures.numbers in record { number = found_number _ _ _ _ counted; listing = c.put_found.ensures ∙ found_words _ _ _ _ counted _ _ numbers }

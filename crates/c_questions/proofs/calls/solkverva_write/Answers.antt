@@ -6,15 +6,9 @@ use Rattle.c_questions.proofs.calls.solkverva_write.Goals as goal
 
 pub returns-then-w-ne0 : goal.returns-then-w-ne0
 returns-then-w-ne0 c =
-    let put = c in
-    let chosen = put in
-    let wrote = chosen in
-    let w = rw wrote.value_from.ensures at wrote.write-w.ensures in
-    let n = ap (λ (r : Written). r.number) w in record { number = n; bytes = put.put_bytes.ensures ∙ sym (write_refused _ _ (λ z. chosen.if-w-ne0.true (n ∙ z))) }
+    let w = rw c.value_from.ensures at c.write-w.ensures in
+    let n = ap (λ (r : Written). r.number) w in record { number = n; bytes = c.put_bytes.ensures ∙ sym (write_refused _ _ (λ z. c.if-w-ne0.true (n ∙ z))) }
 
 pub returns : goal.returns
 returns c =
-    let put = c in
-    let chosen = put in
-    let wrote = chosen in
-    let w = rw wrote.value_from.ensures at wrote.write-w.ensures in record { number = sym chosen.if-w-ne0.false ∙ ap (λ (r : Written). r.number) w; bytes = rw (put.put_bytes-2.ensures, w) }
+    let w = rw c.value_from.ensures at c.write-w.ensures in record { number = sym c.if-w-ne0.false ∙ ap (λ (r : Written). r.number) w; bytes = rw (c.put_bytes-2.ensures, w) }

@@ -3,6 +3,5 @@ use Rattle.c_questions.proofs.descriptions.solkverva_describe_stack.Goals as goa
 
 pub returns : goal.returns
 returns c =
-    let put = c in
-    let l = put.describe_stack-d.ensures in
-    let s = put.settings_from.ensures in record { number = rw (l, s); description = rw (put.put_stack.ensures, l, s) }
+    let l = c.describe_stack-d.ensures in
+    let s = c.settings_from.ensures in record { number = rw (l, s); description = rw (c.put_stack.ensures, l, s) }

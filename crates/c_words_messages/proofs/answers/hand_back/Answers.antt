@@ -7,13 +7,9 @@ use Rattle.c_words_messages.proofs.answers.hand_back.Goals as goal
 pub returns-in-Refused : goal.returns-in-Refused
 unfolding answer_in remembered_over refused_with
 returns-in-Refused c =
-    let put = c in
-    let e = put.in-Refused.is in record { number = rw e; remembered = rw e; answer = rw e put.put_refusal.ensures }
+    let e = c.in-Refused.is in record { number = rw e; remembered = rw e; answer = rw e c.put_refusal.ensures }
 
 pub returns-in-Done : goal.returns-in-Done
 unfolding answer_in remembered_over accepted_with
 returns-in-Done c =
-    let put = c in
-    let told = put in
-    let kept = told in
-    let e = kept.in-Done.is in record { number = rw e; remembered = rw e kept.put_remembered.ensures; answer = rw (e, ← told.accepted_with.ensures) put.put_answer.ensures }
+    let e = c.in-Done.is in record { number = rw e; remembered = rw e c.put_remembered.ensures; answer = rw (e, ← c.accepted_with.ensures) c.put_answer.ensures }

@@ -14,16 +14,13 @@ overflow_add-lookup_table c =
 pub returns : goal.returns
 unfolding lookup_at
 returns c =
-    let part = c in
-    let number = part in
-    let control = number in
     rw (
       c.both.ensures,
       c.able_to_write.ensures,
-      part.control_part.ensures,
-      part.word_at-pointer.ensures,
-      number.cell_number.ensures,
-      number.lookup_table.ensures,
-      control.word_at-control.ensures,
-      control.control_place.ensures,
+      c.control_part.ensures,
+      c.word_at-pointer.ensures,
+      c.cell_number.ensures,
+      c.lookup_table.ensures,
+      c.word_at-control.ensures,
+      c.control_place.ensures,
     )

@@ -27,18 +27,15 @@ returns-then-windows_meet c =
 
 pub returns : goal.returns
 returns c =
-    let d = c in
-    let e = d in
-    let f = e in
     rw (
       c.both.ensures,
       c.double_fits.ensures,
-      ← d.windows_meet.ensures,
-      d.if-windows_meet.false,
-      ← e.meets_fixed.ensures,
-      e.if-meets_fixed.false,
+      ← c.windows_meet.ensures,
+      c.if-windows_meet.false,
+      ← c.meets_fixed.ensures,
+      c.if-meets_fixed.false,
       and-true,
-      ← f.fits_below.ensures,
-      not-false f.fits_below.result (sym f.no.ensures ∙ f.if-no.false),
+      ← c.fits_below.ensures,
+      not-false c.fits_below.result (sym c.no.ensures ∙ c.if-no.false),
       and-true,
     )

@@ -17,13 +17,11 @@ returns-then-meets_fixed c = rw (← c.meets_fixed.ensures, c.if-meets_fixed.tru
 
 pub returns : goal.returns
 returns c =
-    let e = c in
-    let f = e in
     rw (
       c.both.ensures,
-      ← e.meets_fixed.ensures,
-      e.if-meets_fixed.false,
-      ← f.fits_below.ensures,
-      not-false f.fits_below.result (sym f.no.ensures ∙ f.if-no.false),
+      ← c.meets_fixed.ensures,
+      c.if-meets_fixed.false,
+      ← c.fits_below.ensures,
+      not-false c.fits_below.result (sym c.no.ensures ∙ c.if-no.false),
       and-true,
     )

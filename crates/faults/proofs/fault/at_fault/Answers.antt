@@ -9,12 +9,9 @@ use Rattle.faults.proofs.fault.at_fault.Goals as goal
 
 pub returns : goal.returns
 returns c =
-    let told = c in
-    let contents = told in
-    let wrong = contents in
-    let a = wrong.args in
-    let w : wrong.no-miscounted.result ≡ not (eqb a.v.count (expected_words a.v.command)) =
-    rw (wrong.no-miscounted.ensures, wrong.expected_words.ensures) in
-    let k : contents.both-contents.result ≡ (a.broadcast && transmits a.v.command) =
-    rw (contents.both-contents.ensures, contents.transmit.ensures) in
-    parts_say a.broadcast a.v told.told_fault.ensures w k c.either.ensures c.either-2.ensures
+    let a = c.args in
+    let w : c.no-miscounted.result ≡ not (eqb a.v.count (expected_words a.v.command)) =
+    rw (c.no-miscounted.ensures, c.expected_words.ensures) in
+    let k : c.both-contents.result ≡ (a.broadcast && transmits a.v.command) =
+    rw (c.both-contents.ensures, c.transmit.ensures) in
+    parts_say a.broadcast a.v c.told_fault.ensures w k c.either.ensures c.either-2.ensures

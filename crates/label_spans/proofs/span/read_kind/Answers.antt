@@ -35,9 +35,8 @@ bounds-ends-first c =
     omega (arith, c.cell_number-first.ensures, number_on_below c.args.kind c.loop-sub.sub (omega arith))
 
 pub loop-sub-preserved : goal.loop-sub-preserved
-loop-sub-preserved c =
-    let at = c in (
-      omega arith,
-      rw (fill_from_more, ← at.loop-sub.invariant.1, c.span_in-span.ensures, number_on, at.cell_number-first.ensures),
-      rw (fill_from_more, ← at.loop-sub.invariant.2, c.span_in-span.ensures, number_on, at.cell_number-first.ensures),
-    )
+loop-sub-preserved c = (
+  omega arith,
+  rw (fill_from_more, ← c.loop-sub.invariant.1, c.span_in-span.ensures, number_on, c.cell_number-first.ensures),
+  rw (fill_from_more, ← c.loop-sub.invariant.2, c.span_in-span.ensures, number_on, c.cell_number-first.ensures),
+)

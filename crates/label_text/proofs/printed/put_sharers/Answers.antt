@@ -16,14 +16,13 @@ pub bounds-label-i : goal.bounds-label-i
 bounds-label-i c = omega (arith, c.requires.few)
 
 pub loop-i-preserved : goal.loop-i-preserved
-loop-i-preserved c =
-    let at = c in (
-      omega arith,
-      put_line (meet_line _) at.args.label.cells at.loop-i.i no_sharer _ _ _ _ _ _
-          (omega (arith, at.requires.there))
-          at.loop-i.invariant.1
-          c.put_meeting-next.ensures,
-    )
+loop-i-preserved c = (
+  omega arith,
+  put_line (meet_line _) c.args.label.cells c.loop-i.i no_sharer _ _ _ _ _ _
+      (omega (arith, c.requires.there))
+      c.loop-i.invariant.1
+      c.put_meeting-next.ensures,
+)
 
 pub shape_of-out : goal.shape_of-out
 shape_of-out c = put_kept c.loop-i.invariant.1

@@ -8,8 +8,7 @@ use Rattle.layout.proofs.writer.write.Goals as goal
 pub returns-then-keeps_layout : goal.returns-then-keeps_layout
 unfolding header_of fields_of bytes_of
 returns-then-keeps_layout c =
-    let k = c in
-    let b = sym k.keeps_layout.ensures ∙ k.if-keeps_layout.true in
+    let b = sym c.keeps_layout.ensures ∙ c.if-keeps_layout.true in
     rw (c.put_words-bytes.ensures, c.header_of.ensures, ← put_append) (sym (write_good _ b))
 
 pub returns-else-keeps_layout : goal.returns-else-keeps_layout

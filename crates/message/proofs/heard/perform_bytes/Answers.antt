@@ -22,11 +22,10 @@ returns-then-early-ne0 c = let all =
 
 pub returns-then-reading-ne0 : goal.returns-then-reading-ne0
 returns-then-reading-ne0 c = let all =
-    let t = c in
-    let a = t.args in
+    let a = c.args in
     let h = heard_bytes a.bytes.now in
     let x = state_of a.ram.now a.reply.now a.before in
-    let passed = sym t.early_refusal-early.ensures ∙ t.if-early-ne0.false in
+    let passed = sym c.early_refusal-early.ensures ∙ c.if-early-ne0.false in
     let m = c.if-reading-ne0.true in
     let e = record_number a.bytes.now ∙ ap (λ (r : Reading). r.number) (sym c.read-reading.ensures) in
     heard_refused a.s h a.before a.ram.now a.reply.now _ (stops_record a.s h x passed _ e m) m in
@@ -34,15 +33,13 @@ returns-then-reading-ne0 c = let all =
 
 pub returns : goal.returns
 returns c = let all =
-    let k = c in
-    let t = k in
-    let a = t.args in
+    let a = c.args in
     let h = heard_bytes a.bytes.now in
-    let passed = sym t.early_refusal-early.ensures ∙ t.if-early-ne0.false in
-    let e = k.read-reading.ensures in
-    let good = k.if-reading-ne0.false in
+    let passed = sym c.early_refusal-early.ensures ∙ c.if-early-ne0.false in
+    let e = c.read-reading.ensures in
+    let good = c.if-reading-ne0.false in
     let taken : (read_record a.bytes.now).number ≡ 0 = rw (← e) good in
     let same = ap (λ (r : Reading). r.value) e ∙ value_read a.bytes.now taken in
     heard_performed a.s h a.before a.ram.now a.reply.now passed (record_number a.bytes.now ∙ taken)
-    _ same _ _ _ (k.perform.ensures.performed, (k.perform.ensures.ram, k.perform.ensures.reply)) in
+    _ same _ _ _ (c.perform.ensures.performed, (c.perform.ensures.ram, c.perform.ensures.reply)) in
     record { performed = all.0; ram = all.1.0; reply = all.1.1 }

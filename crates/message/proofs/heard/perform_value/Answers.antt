@@ -25,11 +25,10 @@ returns-then-early-ne0 c = let all =
 pub returns-then-no : goal.returns-then-no
 unfolding first_of
 returns-then-no c = let all =
-    let t = c in
-    let a = t.args in
+    let a = c.args in
     let h = heard_value a.v in
     let x = state_of a.ram.now a.reply.now a.before in
-    let passed = sym t.early_refusal-early.ensures ∙ t.if-early-ne0.false in
+    let passed = sym c.early_refusal-early.ensures ∙ c.if-early-ne0.false in
     let broken : not (keeps_layout a.v) ≡ true =
     rw (← c.keeps_layout.ensures, ← c.no.ensures) c.if-no.true in
     let m : record_layout ≡ 0 → ⊥ = λ e. omega arith in
@@ -41,13 +40,10 @@ returns-then-no c = let all =
 pub returns : goal.returns
 unfolding first_of
 returns c = let all =
-    let k = c in
-    let n = k in
-    let t = n in
-    let a = t.args in
+    let a = c.args in
     let h = heard_value a.v in
-    let passed = sym t.early_refusal-early.ensures ∙ t.if-early-ne0.false in
+    let passed = sym c.early_refusal-early.ensures ∙ c.if-early-ne0.false in
     let kept : not (keeps_layout a.v) ≡ false =
-    rw (← n.keeps_layout.ensures, ← n.no.ensures) n.if-no.false in
-    heard_performed a.s h a.before a.ram.now a.reply.now passed (rw kept) _ refl _ _ _ (k.perform.ensures.performed, (k.perform.ensures.ram, k.perform.ensures.reply)) in
+    rw (← c.keeps_layout.ensures, ← c.no.ensures) c.if-no.false in
+    heard_performed a.s h a.before a.ram.now a.reply.now passed (rw kept) _ refl _ _ _ (c.perform.ensures.performed, (c.perform.ensures.ram, c.perform.ensures.reply)) in
     record { performed = all.0; ram = all.1.0; reply = all.1.1 }

@@ -5,7 +5,6 @@ use Rattle.message.proofs.long.message_from_long.Goals as goal
 
 pub returns : goal.returns
 returns c = let all =
-    let k = c in
-    let a = k.args in
-    told a.s (heard_long a.bytes.now) a.before a.ram.now a.reply.now _ _ _ (k.perform_long-performed.ensures.performed, (k.perform_long-performed.ensures.ram, k.perform_long-performed.ensures.reply)) _ c.tell.ensures in
+    let a = c.args in
+    told a.s (heard_long a.bytes.now) a.before a.ram.now a.reply.now _ _ _ (c.perform_long-performed.ensures.performed, (c.perform_long-performed.ensures.ram, c.perform_long-performed.ensures.reply)) _ c.tell.ensures in
     record { answer = all.0; state = all.1 }

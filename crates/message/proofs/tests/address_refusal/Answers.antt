@@ -9,7 +9,6 @@ returns-then-is_not_ours c = simp (← c.is_not_ours.ensures, c.if-is_not_ours.t
 pub returns : goal.returns
 unfolding first_of
 returns c =
-    let first = c in
     simp
-    (← first.is_not_ours.ensures, first.if-is_not_ours.false, ← c.mode_subaddress.ensures)
+    (← c.is_not_ours.ensures, c.if-is_not_ours.false, ← c.mode_subaddress.ensures)
     c.pick.ensures

@@ -14,12 +14,10 @@ returns-then-room-lt33 c = simp (← c.ram_refused.ensures, c.if-ram_refused.fal
 pub returns-then-settings_refused : goal.returns-then-settings_refused
 unfolding first_of
 returns-then-settings_refused c =
-    let second = c in
-    let first = second in
     simp (
-      ← first.ram_refused.ensures,
-      first.if-ram_refused.false,
-      le-ltb _ _ second.if-room-lt33.false,
+      ← c.ram_refused.ensures,
+      c.if-ram_refused.false,
+      le-ltb _ _ c.if-room-lt33.false,
       ← c.settings_refused.ensures,
       c.if-settings_refused.true,
     )
@@ -27,12 +25,10 @@ returns-then-settings_refused c =
 pub returns : goal.returns
 unfolding first_of
 returns c =
-    let second = c in
-    let first = second in
     simp (
-      ← first.ram_refused.ensures,
-      first.if-ram_refused.false,
-      le-ltb _ _ second.if-room-lt33.false,
+      ← c.ram_refused.ensures,
+      c.if-ram_refused.false,
+      le-ltb _ _ c.if-room-lt33.false,
       ← c.settings_refused.ensures,
       c.if-settings_refused.false,
     )

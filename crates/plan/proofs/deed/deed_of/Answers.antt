@@ -13,14 +13,9 @@ deed_with-requires c = rw c.clean_act-a.ensures
 pub returns-then-no : goal.returns-then-no
 unfolding deed_of
 returns-then-no c =
-    let begun = c in
-    let asked = begun in
-    let odd = asked in
-    let wrong = odd in
-    let expected = wrong in
-    let a = expected.args in
-    let told = rw (wrong.no-miscounted.ensures, expected.expected_words.ensures) at odd.is_unclean.ensures in
-    let clean = not_unclean a.s a.t a.v _ told _ asked.no.ensures begun.if-no.true in
+    let a = c.args in
+    let told = rw (c.no-miscounted.ensures, c.expected_words.ensures) at c.is_unclean.ensures in
+    let clean = not_unclean a.s a.t a.v _ told _ c.no.ensures c.if-no.true in
     rw (
       c.deed_with.ensures,
       c.motion_of-m.ensures,

@@ -10,8 +10,7 @@ not-not false = refl
 
 pub block_status-requires : goal.block_status-requires
 block_status-requires c =
-    let made = c in
-    rw (made.no-fault.ensures, made.requires) (not-not _)
+    rw (c.no-fault.ensures, c.requires) (not-not _)
 
 pub returns : goal.returns
 unfolding signals_of deed_with

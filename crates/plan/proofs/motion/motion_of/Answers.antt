@@ -19,15 +19,13 @@ returns-in-Double c =
 pub returns-in-Circular : goal.returns-in-Circular
 unfolding motion_of motion_with moves may_move stride
 returns-in-Circular c =
-    let moved = c in
-    let held = moved in
     rw (
       c.both.ensures,
       c.rolls_over.ensures,
       c.pick-in-Circular.ensures,
       c.place-in-Circular.ensures,
-      moved.both-moved-in-Circular.ensures,
-      held.either.ensures,
-      held.no.ensures,
-      held.in-Circular.is,
+      c.both-moved-in-Circular.ensures,
+      c.either.ensures,
+      c.no.ensures,
+      c.in-Circular.is,
     )

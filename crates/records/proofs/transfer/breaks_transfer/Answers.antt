@@ -5,7 +5,7 @@ use Rattle.records.proofs.Before.{unmarked}
 use Rattle.records.proofs.transfer.breaks_transfer.Goals as goal
 
 pub returns-then-v-lt8 : goal.returns-then-v-lt8
-returns-then-v-lt8 c = let begun = c in rw (c.no.ensures, unmarked begun.args.v (omega (arith, begun.if-v-lt8.true)))
+returns-then-v-lt8 c = rw (c.no.ensures, unmarked c.args.v (omega (arith, c.if-v-lt8.true)))
 
 pub returns : goal.returns
 unfolding breaks_transfer

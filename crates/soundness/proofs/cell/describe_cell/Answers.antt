@@ -5,10 +5,8 @@ use Rattle.soundness.proofs.cell.describe_cell.Goals as goal
 
 pub returns-then-refused-ne0 : goal.returns-then-refused-ne0
 unfolding cell_description
-returns-then-refused-ne0 c = let k = c in rw (← k.given_refusal-refused.ensures, ne_eqb _ _ c.if-refused-ne0.true) c.no_cell.ensures
+returns-then-refused-ne0 c = rw (← c.given_refusal-refused.ensures, ne_eqb _ _ c.if-refused-ne0.true) c.no_cell.ensures
 
 pub returns : goal.returns
 unfolding cell_description
-returns c = let read = c in
-    let chosen = read in
-    rw (← chosen.given_refusal-refused.ensures, eq-eqb _ _ chosen.if-refused-ne0.false, c.described_cell.ensures, read.cell_numbered-c.ensures)
+returns c = rw (← c.given_refusal-refused.ensures, eq-eqb _ _ c.if-refused-ne0.false, c.described_cell.ensures, c.cell_numbered-c.ensures)

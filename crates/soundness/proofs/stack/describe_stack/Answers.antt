@@ -5,9 +5,8 @@ use Rattle.soundness.proofs.stack.describe_stack.Goals as goal
 
 pub returns-then-refused-ne0 : goal.returns-then-refused-ne0
 unfolding stack_description
-returns-then-refused-ne0 c = let k = c in rw (← k.given_refusal-refused.ensures, ne_eqb _ _ c.if-refused-ne0.true) c.no_stack.ensures
+returns-then-refused-ne0 c = rw (← c.given_refusal-refused.ensures, ne_eqb _ _ c.if-refused-ne0.true) c.no_stack.ensures
 
 pub returns : goal.returns
 unfolding stack_description
-returns c = let chosen = c in
-    rw (← chosen.given_refusal-refused.ensures, eq-eqb _ _ chosen.if-refused-ne0.false) c.described_stack.ensures
+returns c = rw (← c.given_refusal-refused.ensures, eq-eqb _ _ c.if-refused-ne0.false) c.described_stack.ensures

@@ -6,18 +6,12 @@ use Rattle.text.proofs.columns.copy_accepted.Goals as goal
 pub returns : goal.returns
 unfolding accepted_columns
 returns c =
-    let end = c in
-    let interrupt = end in
-    let sent = interrupt in
-    let status = sent in
-    let words = status in
-    let start = words in
-    let none = start.requires.1.1.0 in
+    let none = c.requires.1.1.0 in
     rw none
     (put_then
     (put_then
     (put_then
-    (put_then (put_then start.copy_number-words.ensures.put words.copy_three-status.ensures.put) status.copy_status-sent.ensures.put)
-    sent.copy_number-interrupt.ensures.put)
-    interrupt.copy_word-end.ensures.put)
-    end.write_byte.ensures)
+    (put_then (put_then c.copy_number-words.ensures.put c.copy_three-status.ensures.put) c.copy_status-sent.ensures.put)
+    c.copy_number-interrupt.ensures.put)
+    c.copy_word-end.ensures.put)
+    c.write_byte.ensures)

@@ -7,14 +7,9 @@ use Rattle.text.proofs.columns.copy_none.Goals as goal
 pub returns : goal.returns
 unfolding none_text
 returns c =
-    let e = c in
-    let n₂ = e in
-    let o = n₂ in
-    let n = o in
-    let space = n in
     let all =
     put_then
     (put_then
-    (put_then (put_then space.write_byte-n.ensures n.write_byte-o.ensures) o.write_byte-last_n.ensures)
-    n₂.write_byte-e.ensures)
-    e.write_byte.ensures in record { put = all; near = omega (arith, all.place) }
+    (put_then (put_then c.write_byte-n.ensures c.write_byte-o.ensures) c.write_byte-last_n.ensures)
+    c.write_byte-e.ensures)
+    c.write_byte.ensures in record { put = all; near = omega (arith, all.place) }

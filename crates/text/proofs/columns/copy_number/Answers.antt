@@ -5,4 +5,4 @@ use Rattle.text.proofs.columns.copy_number.Goals as goal
 
 pub returns : goal.returns
 returns c =
-    let digits = c in record { put = put_then digits.write_byte-digits.ensures digits.put_few.ensures.put; near = omega arith }
+    record { put = put_then c.write_byte-digits.ensures c.put_few.ensures.put; near = omega arith }

@@ -4,8 +4,8 @@ use Rattle.text.proofs.columns.copy_status.Goals as goal
 
 pub returns-then-answered : goal.returns-then-answered
 unfolding status_text
-returns-then-answered c = let s = c in record { put = rw s.if-answered.true s.copy_word.ensures.put; near = s.copy_word.ensures.near }
+returns-then-answered c = record { put = rw c.if-answered.true c.copy_word.ensures.put; near = c.copy_word.ensures.near }
 
 pub returns-else-answered : goal.returns-else-answered
 unfolding status_text
-returns-else-answered c = let s = c in record { put = rw s.if-answered.false s.copy_none.ensures.put; near = s.copy_none.ensures.near }
+returns-else-answered c = record { put = rw c.if-answered.false c.copy_none.ensures.put; near = c.copy_none.ensures.near }

@@ -7,6 +7,4 @@ use Rattle.text.proofs.columns.copy_three.Goals as goal
 pub returns : goal.returns
 unfolding three_words
 returns c =
-    let third = c in
-    let second = third in
-    let first = second in record { put = put_then (put_then first.copy_word-second.ensures.put second.copy_word-third.ensures.put) third.copy_word.ensures.put; near = omega arith }
+    record { put = put_then (put_then c.copy_word-second.ensures.put c.copy_word-third.ensures.put) c.copy_word.ensures.put; near = omega arith }

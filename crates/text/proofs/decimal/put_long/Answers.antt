@@ -8,18 +8,14 @@ use Rattle.text.proofs.decimal.put_long.Goals as goal
 
 pub put_pair-requires : goal.put_pair-requires
 put_pair-requires c =
-    let third = c in
-    let n = third.args.n in
-    omega (arith, third.put_pair-last.ensures.place, length_digits 2 (n % 10000 / 100))
+    let n = c.args.n in
+    omega (arith, c.put_pair-last.ensures.place, length_digits 2 (n % 10000 / 100))
 
 pub returns : goal.returns
 returns c =
-    let last = c in
-    let third = last in
-    let front = third in
-    let n = front.args.n in
+    let n = c.args.n in
     let e : n / 100 / 100 ≡ n / 10000 = omega arith in
     let f = decimal_pair (n / 100) (omega arith) (omega arith) in
     rw (decimal_pair n (omega arith) (omega arith), f, e)
-    (put_then (put_then front.put_short-third.ensures.put (put_same (pair_before n) third.put_pair-last.ensures))
-    (put_same (pair_after n) last.put_pair.ensures))
+    (put_then (put_then c.put_short-third.ensures.put (put_same (pair_before n) c.put_pair-last.ensures))
+    (put_same (pair_after n) c.put_pair.ensures))

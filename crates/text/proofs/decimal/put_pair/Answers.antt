@@ -6,5 +6,4 @@ use Rattle.text.proofs.decimal.put_pair.Goals as goal
 pub returns : goal.returns
 unfolding digits
 returns c =
-    let last = c in
-    put_then last.write_byte-last.ensures last.write_byte.ensures
+    put_then c.write_byte-last.ensures c.write_byte.ensures

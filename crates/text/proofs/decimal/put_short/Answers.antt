@@ -7,7 +7,5 @@ use Rattle.text.proofs.decimal.put_short.Goals as goal
 
 pub returns : goal.returns
 returns c =
-    let last = c in
-    let few = last in
-    let n = few.args.n in
-    let both = put_then few.put_few-next.ensures.put (put_same (pair_last n) last.put_pair.ensures) in record { put = rw (decimal_pair n few.if-n-lt100.false (omega arith)) both; near = omega (arith, last.put_pair.ensures.place, length_digits 2 (n % 100)) }
+    let n = c.args.n in
+    let both = put_then c.put_few-next.ensures.put (put_same (pair_last n) c.put_pair.ensures) in record { put = rw (decimal_pair n c.if-n-lt100.false (omega arith)) both; near = omega (arith, c.put_pair.ensures.place, length_digits 2 (n % 100)) }

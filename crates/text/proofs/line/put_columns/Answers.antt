@@ -9,22 +9,21 @@ use Rattle.text.proofs.line.put_columns.Goals as goal
 
 pub copy_accepted-requires : goal.copy_accepted-requires
 copy_accepted-requires c =
-    let t = c in
-    let a = t.args in
+    let a = c.args in
     let s =
-    room_says a.a.sent 100 a.at 32 _ refl t.has_room.ensures t.both.ensures t.if-both.true in
+    room_says a.a.sent 100 a.at 32 _ refl c.has_room.ensures c.both.ensures c.if-both.true in
     (omega (arith, s.1), (search rules, (search rules, omega (arith, s.0))))
 
 pub returns-then-a-ne0 : goal.returns-then-a-ne0
 unfolding columns_of
-returns-then-a-ne0 c = let p = c in simp (ne_eqb _ _ p.if-a-ne0.true) p.put_refused.ensures
+returns-then-a-ne0 c = simp (ne_eqb _ _ c.if-a-ne0.true) c.put_refused.ensures
 
 pub returns-then-both : goal.returns-then-both
 unfolding columns_of
 returns-then-both c =
-    let p = c in simp (eq-eqb _ _ p.if-a-ne0.false) p.copy_accepted.ensures
+    simp (eq-eqb _ _ c.if-a-ne0.false) c.copy_accepted.ensures
 
 pub returns-else-both : goal.returns-else-both
 unfolding columns_of
 returns-else-both c =
-    let p = c in simp (eq-eqb _ _ p.if-a-ne0.false) p.put_accepted.ensures
+    simp (eq-eqb _ _ c.if-a-ne0.false) c.put_accepted.ensures

@@ -6,6 +6,4 @@ use Rattle.text.proofs.line.put_named.Goals as goal
 pub returns : goal.returns
 unfolding named_line
 returns c =
-    let number = c in
-    let name = number in
-    put_then (put_then name.put_bytes-next.ensures number.put_number-end.ensures) c.put_newline.ensures
+    put_then (put_then c.put_bytes-next.ensures c.put_number-end.ensures) c.put_newline.ensures

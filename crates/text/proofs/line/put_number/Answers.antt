@@ -7,9 +7,8 @@ use Rattle.text.proofs.line.put_number.Goals as goal
 
 pub returns-else-at-out : goal.returns-else-at-out
 returns-else-at-out c =
-    let far = c in
-    put_out (omega arith) far.if-at-out.false
-    (rw (length_decimal, ← far.places-k.ensures.counted) (omega (arith, c.after.ensures)))
+    put_out (omega arith) c.if-at-out.false
+    (rw (length_decimal, ← c.places-k.ensures.counted) (omega (arith, c.after.ensures)))
 
 pub returns-then-at-out : goal.returns-then-at-out
 unfolding decimal_text

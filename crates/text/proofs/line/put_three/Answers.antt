@@ -6,7 +6,4 @@ use Rattle.text.proofs.line.put_three.Goals as goal
 pub returns : goal.returns
 unfolding three_words
 returns c =
-    let third = c in
-    let second = third in
-    let first = second in
-    put_then (put_then first.put_word-second.ensures second.put_word-third.ensures) third.put_word.ensures
+    put_then (put_then c.put_word-second.ensures c.put_word-third.ensures) c.put_word.ensures

@@ -5,10 +5,9 @@ use Rattle.text.proofs.line.put_word.Goals as goal
 
 pub returns-then-at-out : goal.returns-then-at-out
 returns-then-at-out c =
-    let digits = c in
     column_here 4 (omega arith) (omega arith) (length_hex _)
-    digits.put_byte.ensures
-    digits.put_hex.ensures
+    c.put_byte.ensures
+    c.put_hex.ensures
     (omega arith)
 
 pub returns-else-at-out : goal.returns-else-at-out

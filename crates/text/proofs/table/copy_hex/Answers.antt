@@ -8,34 +8,25 @@ use Rattle.text.proofs.table.copy_hex.Goals as goal
 
 pub bounds-table-high : goal.bounds-table-high
 bounds-table-high c =
-    let start = c in
-    let l : length start.args.table.now ≡ 512 = rw start.requires.1 length_table in omega (arith, l)
+    let l : length c.args.table.now ≡ 512 = rw c.requires.1 length_table in omega (arith, l)
 
 pub bounds-table-high-2 : goal.bounds-table-high-2
 bounds-table-high-2 c =
-    let start = c in
-    let l : length start.args.table.now ≡ 512 = rw start.requires.1 length_table in omega (arith, l)
+    let l : length c.args.table.now ≡ 512 = rw c.requires.1 length_table in omega (arith, l)
 
 pub bounds-table-low : goal.bounds-table-low
 bounds-table-low c =
-    let start = c in
-    let l : length start.args.table.now ≡ 512 = rw start.requires.1 length_table in omega (arith, l)
+    let l : length c.args.table.now ≡ 512 = rw c.requires.1 length_table in omega (arith, l)
 
 pub bounds-table-low-2 : goal.bounds-table-low-2
 bounds-table-low-2 c =
-    let start = c in
-    let l : length start.args.table.now ≡ 512 = rw start.requires.1 length_table in omega (arith, l)
+    let l : length c.args.table.now ≡ 512 = rw c.requires.1 length_table in omega (arith, l)
 
 pub returns : goal.returns
 returns c =
-    let fourth = c in
-    let third = fourth in
-    let second = third in
-    let first = second in
-    let start = first in
-    let text = table_text start.args.w (omega arith) in
+    let text = table_text c.args.w (omega arith) in
     let all =
     put_then
-    (put_then (put_then first.write_byte-second.ensures second.write_byte-third.ensures) third.write_byte-fourth.ensures)
-    fourth.write_byte.ensures in
-    let said = rw (start.requires.1, text) at all in record { put = said; near = omega (arith, said.place, length_hex start.args.w) }
+    (put_then (put_then c.write_byte-second.ensures c.write_byte-third.ensures) c.write_byte-fourth.ensures)
+    c.write_byte.ensures in
+    let said = rw (c.requires.1, text) at all in record { put = said; near = omega (arith, said.place, length_hex c.args.w) }

@@ -15,10 +15,9 @@ loop-i-init c = (omega arith, refl)
 
 pub loop-i-preserved : goal.loop-i-preserved
 loop-i-preserved c =
-    let t = c in
-    let s = t.args.s.now in
-    let h : t.loop-i.i < length s = t.loop-i-test.true in
-    (omega arith, rw (sets_more, c.put_byte.ensures, t.loop-i.invariant.1))
+    let s = c.args.s.now in
+    let h : c.loop-i.i < length s = c.loop-i-test.true in
+    (omega arith, rw (sets_more, c.put_byte.ensures, c.loop-i.invariant.1))
 
 pub shape_of-out : goal.shape_of-out
 shape_of-out c = rw (c.loop-i.invariant.1, length-sets)

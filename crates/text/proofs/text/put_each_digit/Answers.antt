@@ -7,17 +7,15 @@ use Rattle.text.proofs.text.put_each_digit.Goals as goal
 
 pub returns-then-out-at : goal.returns-then-out-at
 returns-then-out-at c =
-    let counted = c in
     put_out (omega arith) c.if-out-at.true
-    (rw (length_decimal, ← counted.places-k.ensures.counted) c.after-next.ensures)
+    (rw (length_decimal, ← c.places-k.ensures.counted) c.after-next.ensures)
 
 pub returns : goal.returns
 unfolding decimal_text
 returns c =
-    let next = c in
-    let e = next.places-k.ensures.counted in
+    let e = c.places-k.ensures.counted in
     record {
       short = omega arith;
       bytes = rw (c.put_digits.ensures, e);
-      place = rw (length_digits, ← e) next.after-next.ensures;
+      place = rw (length_digits, ← e) c.after-next.ensures;
     }

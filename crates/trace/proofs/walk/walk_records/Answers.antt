@@ -9,9 +9,7 @@ loop-i-init c = (omega arith, (stands_none _ _ _ _ _ _ _ (omega arith), (refl, (
 
 pub overflow_add-i : goal.overflow_add-i
 overflow_add-i c =
-    let t = c in
-    let start = t in
-    omega (arith, t.loop-i-test.true, start.well_formed.1.1.1.1.1.1.0)
+    omega (arith, c.loop-i-test.true, c.well_formed.1.1.1.1.1.1.0)
 
 pub returns : goal.returns
 unfolding walk_all

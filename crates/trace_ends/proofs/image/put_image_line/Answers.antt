@@ -6,5 +6,4 @@ use Rattle.trace_ends.proofs.image.put_image_line.Goals as goal
 
 pub returns : goal.returns
 returns c =
-    let line = c in
-    put_first line.put_image.ensures (omega (arith, image_most line.args.bytes))
+    put_first c.put_image.ensures (omega (arith, image_most c.args.bytes))

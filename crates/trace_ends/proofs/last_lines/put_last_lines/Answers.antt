@@ -8,8 +8,7 @@ use Rattle.trace_ends.proofs.last_lines.put_last_lines.Goals as goal
 pub returns : goal.returns
 unfolding last_lines
 returns c =
-    let first = c in
-    let given = first.args in
+    let given = c.args in
     put_first {xs = last_lines given.tail given.number}
-    (put_then first.put_tail-end.ensures c.put_end.ensures)
+    (put_then c.put_tail-end.ensures c.put_end.ensures)
     (omega (arith, last_most given.tail given.number))

@@ -9,10 +9,8 @@ returns-then-ram_refused c = simp (← c.ram_refused.ensures, c.if-ram_refused.t
 
 pub returns-then-settings_refused : goal.returns-then-settings_refused
 unfolding replay_refusal first_of
-returns-then-settings_refused c = let first = c in
-    simp (← first.ram_refused.ensures, first.if-ram_refused.false, ← c.settings_refused.ensures, c.if-settings_refused.true)
+returns-then-settings_refused c = simp (← c.ram_refused.ensures, c.if-ram_refused.false, ← c.settings_refused.ensures, c.if-settings_refused.true)
 
 pub returns : goal.returns
 unfolding replay_refusal first_of
-returns c = let first = c in
-    simp (← first.ram_refused.ensures, first.if-ram_refused.false, ← c.settings_refused.ensures, c.if-settings_refused.false)
+returns c = simp (← c.ram_refused.ensures, c.if-ram_refused.false, ← c.settings_refused.ensures, c.if-settings_refused.false)

@@ -10,18 +10,16 @@ returns-then-number-ne0 c = who_stops _ c.args.s c.args.address _ c.replay_refus
 
 pub returns-then-words-address : goal.returns-then-words-address
 unfolding first_of
-returns-then-words-address c = let first = c in
-    let a = first.args in
+returns-then-words-address c = let a = c.args in
     rw (
-      who_passes a.words a.s a.address _ first.replay_refusal-number.ensures first.if-number-ne0.false,
+      who_passes a.words a.s a.address _ c.replay_refusal-number.ensures c.if-number-ne0.false,
       le-leb a.words a.address (omega arith),
     )
 
 pub returns : goal.returns
 unfolding first_of
-returns c = let first = c in
-    let a = first.args in
+returns c = let a = c.args in
     rw (
-      who_passes a.words a.s a.address _ first.replay_refusal-number.ensures first.if-number-ne0.false,
+      who_passes a.words a.s a.address _ c.replay_refusal-number.ensures c.if-number-ne0.false,
       lt-leb a.words a.address (omega arith),
     )

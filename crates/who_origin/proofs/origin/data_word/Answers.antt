@@ -13,20 +13,18 @@ returns-then-start-w c = rw (le-ltb _ _ c.if-a-start.false, le-leb _ _ c.if-star
 
 pub returns-then-steps-n : goal.returns-then-steps-n
 unfolding data_word
-returns-then-steps-n c = let inside = c in
-    rw (
-      le-ltb _ _ inside.if-a-start.false,
-      lt-leb _ _ inside.if-start-w.false,
-      ← c.steps_to-steps.ensures,
-      lt-ltb _ _ c.if-steps-n.true,
-    )
+returns-then-steps-n c = rw (
+  le-ltb _ _ c.if-a-start.false,
+  lt-leb _ _ c.if-start-w.false,
+  ← c.steps_to-steps.ensures,
+  lt-ltb _ _ c.if-steps-n.true,
+)
 
 pub returns-else-steps-n : goal.returns-else-steps-n
 unfolding data_word
-returns-else-steps-n c = let inside = c in
-    rw (
-      le-ltb _ _ inside.if-a-start.false,
-      lt-leb _ _ inside.if-start-w.false,
-      ← c.steps_to-steps.ensures,
-      le-ltb _ _ c.if-steps-n.false,
-    )
+returns-else-steps-n c = rw (
+  le-ltb _ _ c.if-a-start.false,
+  lt-leb _ _ c.if-start-w.false,
+  ← c.steps_to-steps.ensures,
+  le-ltb _ _ c.if-steps-n.false,
+)

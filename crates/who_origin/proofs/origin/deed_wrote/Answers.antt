@@ -11,38 +11,32 @@ overflow_add-lookup_table c = omega (arith, table_low c.args.area)
 
 pub returns-then-both : goal.returns-then-both
 unfolding deed_wrote
-returns-then-both c = let both = c in
-    rw (
-      c.written_as.ensures,
-      ← both.lookup_table.ensures,
-      ← both.both.ensures,
-      c.if-both.true,
-    )
+returns-then-both c = rw (
+  c.written_as.ensures,
+  ← c.lookup_table.ensures,
+  ← c.both.ensures,
+  c.if-both.true,
+)
 
 pub returns-then-data-ne0 : goal.returns-then-data-ne0
 unfolding deed_wrote
-returns-then-data-ne0 c = let found = c in
-    let both = found in
-    let table = both in
-    let given = table.args in
-    let told : _ ≡ data_word given.d.window given.d.stored given.address = found.data_word-data.ensures in
+returns-then-data-ne0 c = let given = c.args in
+    let told : _ ≡ data_word given.d.window given.d.stored given.address = c.data_word-data.ensures in
     rw (
       c.written_as-then-data-ne0.ensures,
-      ← table.lookup_table.ensures,
-      ← both.both.ensures,
-      found.if-both.false,
+      ← c.lookup_table.ensures,
+      ← c.both.ensures,
+      c.if-both.false,
       ← told,
       ne_eqb _ _ c.if-data-ne0.true,
     )
 
 pub returns : goal.returns
 unfolding deed_wrote
-returns c = let found = c in
-    let both = found in
-    rw (
-      ← both.lookup_table.ensures,
-      ← both.both.ensures,
-      found.if-both.false,
-      ← found.data_word-data.ensures,
-      c.if-data-ne0.false,
-    )
+returns c = rw (
+  ← c.lookup_table.ensures,
+  ← c.both.ensures,
+  c.if-both.false,
+  ← c.data_word-data.ensures,
+  c.if-data-ne0.false,
+)

@@ -10,16 +10,12 @@ returns-then-address-stack_pointer_place c = rw (c.written_as.ensures, eq-eqb _ 
 
 pub returns-then-stack-ne0 : goal.returns-then-stack-ne0
 unfolding who_wrote
-returns-then-stack-ne0 c = let stacked = c in
-    let first = stacked in
-    let top = first.stack_pointer_place.ensures in
-    let not_top = ne_eqb _ _ (λ q. first.if-address-stack_pointer_place.false (q ∙ sym top)) in
-    rw (c.written_as-then-stack-ne0.ensures, not_top, ← stacked.stack_word-stack.ensures, ne_eqb _ _ c.if-stack-ne0.true)
+returns-then-stack-ne0 c = let top = c.stack_pointer_place.ensures in
+    let not_top = ne_eqb _ _ (λ q. c.if-address-stack_pointer_place.false (q ∙ sym top)) in
+    rw (c.written_as-then-stack-ne0.ensures, not_top, ← c.stack_word-stack.ensures, ne_eqb _ _ c.if-stack-ne0.true)
 
 pub returns : goal.returns
 unfolding who_wrote
-returns c = let stacked = c in
-    let first = stacked in
-    let top = first.stack_pointer_place.ensures in
-    let not_top = ne_eqb _ _ (λ q. first.if-address-stack_pointer_place.false (q ∙ sym top)) in
-    rw (c.deed_wrote.ensures, not_top, ← stacked.stack_word-stack.ensures, c.if-stack-ne0.false)
+returns c = let top = c.stack_pointer_place.ensures in
+    let not_top = ne_eqb _ _ (λ q. c.if-address-stack_pointer_place.false (q ∙ sym top)) in
+    rw (c.deed_wrote.ensures, not_top, ← c.stack_word-stack.ensures, c.if-stack-ne0.false)

@@ -9,6 +9,4 @@ returns-then-number-ne0 c = let e = c.fill_refusal-number.ensures in record { nu
 
 pub returns : goal.returns
 unfolding filled_with
-returns c = let k = c in
-    let passed = k in
-    let e = passed.fill_refusal-number.ensures in record { number = sym passed.if-number-ne0.false ∙ e; tables = rw (← e, eq-eqb _ _ passed.if-number-ne0.false) k.fill_all-end.ensures }
+returns c = let e = c.fill_refusal-number.ensures in record { number = sym c.if-number-ne0.false ∙ e; tables = rw (← e, eq-eqb _ _ c.if-number-ne0.false) c.fill_all-end.ensures }

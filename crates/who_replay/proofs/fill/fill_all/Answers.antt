@@ -15,14 +15,12 @@ returns c = let e : c.loop-i.i ≡ length c.args.trace.now / 80 = omega arith in
     rw e at c.loop-i.invariant.1.0
 
 pub loop-i-preserved : goal.loop-i-preserved
-loop-i-preserved c = let ram = c in
-    let one = ram in
-    let l = one.loop-i in
+loop-i-preserved c = let l = c.loop-i in
     let e : 80 * l.i + 80 - 80 * l.i ≡ 80 = omega arith in
     let n = l.invariant.1.1 in (
       omega arith,
       (
-        rw (fill_more, ← l.invariant.1.0) (rw e at one.fill_record-w.ensures),
+        rw (fill_more, ← l.invariant.1.0) (rw e at c.fill_record-w.ensures),
         (c.fill_record-w.auto.ram ∙ n.0, (c.fill_record-w.auto.numbers ∙ n.1.0, c.fill_record-w.auto.marks ∙ n.1.1)),
       ),
     )

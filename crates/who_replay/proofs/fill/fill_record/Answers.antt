@@ -5,23 +5,17 @@ use Rattle.who_replay.proofs.Filling.{fill_refused, fill_done}
 use Rattle.who_replay.proofs.fill.fill_record.Goals as goal
 
 pub returns-in-Refused : goal.returns-in-Refused
-returns-in-Refused c = let k = c in
-    let counted = k in
-    let a = counted.args in
-    fill_refused a.s _ (tables_of a.ram.now a.numbers.now a.marks.now a.at) _ k.take_record-taken.ensures.taken _ _ _
+returns-in-Refused c = let a = c.args in
+    fill_refused a.s _ (tables_of a.ram.now a.numbers.now a.marks.now a.at) _ c.take_record-taken.ensures.taken _ _ _
     c.in-Refused.is
-    k.take_record-taken.ensures.ram
-    counted.wrapping_add_u64-number.ensures.value
+    c.take_record-taken.ensures.ram
+    c.wrapping_add_u64-number.ensures.value
 
 pub returns-in-Done : goal.returns-in-Done
-returns-in-Done c = let marked = c in
-    let told = marked in
-    let k = told in
-    let counted = k in
-    let a = counted.args in
-    fill_done a.s _ (tables_of a.ram.now a.numbers.now a.marks.now a.at) _ k.take_record-taken.ensures.taken _ _ _ _ _
-    told.in-Done.is
-    k.take_record-taken.ensures.ram
-    counted.wrapping_add_u64-number.ensures.value
-    marked.mark_plan.ensures.numbers
-    marked.mark_plan.ensures.marks
+returns-in-Done c = let a = c.args in
+    fill_done a.s _ (tables_of a.ram.now a.numbers.now a.marks.now a.at) _ c.take_record-taken.ensures.taken _ _ _ _ _
+    c.in-Done.is
+    c.take_record-taken.ensures.ram
+    c.wrapping_add_u64-number.ensures.value
+    c.mark_plan.ensures.numbers
+    c.mark_plan.ensures.marks

@@ -4,5 +4,4 @@ use Rattle.who_replay.proofs.question.ask.Goals as goal
 
 pub returns : goal.returns
 unfolding asked
-returns c = let k = c in
-    let e = rw k.begin.ensures at k.go_on-end.ensures in record { who = λ i. (e i).at.who; ram = λ i. (e i).ram }
+returns c = let e = rw c.begin.ensures at c.go_on-end.ensures in record { who = λ i. (e i).at.who; ram = λ i. (e i).ram }

@@ -14,7 +14,6 @@ returns c = let e : c.loop-i.i ≡ length c.args.trace.now / 80 = omega arith in
     rw e at c.loop-i.invariant.1.0
 
 pub loop-i-preserved : goal.loop-i-preserved
-loop-i-preserved c = let one = c in
-    let l = one.loop-i in
+loop-i-preserved c = let l = c.loop-i in
     let e : 80 * l.i + 80 - 80 * l.i ≡ 80 = omega arith in
-    (omega arith, (rw (replay_more, ← l.invariant.1.0) (rw e at one.replay_record-w.ensures), c.replay_record-w.auto.ram ∙ l.invariant.1.1))
+    (omega arith, (rw (replay_more, ← l.invariant.1.0) (rw e at c.replay_record-w.ensures), c.replay_record-w.auto.ram ∙ l.invariant.1.1))

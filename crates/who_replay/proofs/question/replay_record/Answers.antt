@@ -5,20 +5,15 @@ use Rattle.who_replay.proofs.Recorded.{replay_refused, replay_done}
 use Rattle.who_replay.proofs.question.replay_record.Goals as goal
 
 pub returns-in-Refused : goal.returns-in-Refused
-returns-in-Refused c = let k = c in
-    let counted = k in
-    let a = counted.args in
-    replay_refused a.s _ _ (replay_of a.ram.now a.at) _ k.take_record-taken.ensures.taken _ _ _
+returns-in-Refused c = let a = c.args in
+    replay_refused a.s _ _ (replay_of a.ram.now a.at) _ c.take_record-taken.ensures.taken _ _ _
     c.in-Refused.is
-    k.take_record-taken.ensures.ram
-    counted.wrapping_add_u64-number.ensures.value
+    c.take_record-taken.ensures.ram
+    c.wrapping_add_u64-number.ensures.value
 
 pub returns-in-Done : goal.returns-in-Done
-returns-in-Done c = let told = c in
-    let k = told in
-    let counted = k in
-    let a = counted.args in
-    replay_done a.s _ _ (replay_of a.ram.now a.at) _ k.take_record-taken.ensures.taken _ told.in-Done.is _ _ _
-    k.take_record-taken.ensures.ram
-    counted.wrapping_add_u64-number.ensures.value
+returns-in-Done c = let a = c.args in
+    replay_done a.s _ _ (replay_of a.ram.now a.at) _ c.take_record-taken.ensures.taken _ c.in-Done.is _ _ _
+    c.take_record-taken.ensures.ram
+    c.wrapping_add_u64-number.ensures.value
     c.who_wrote-who.ensures

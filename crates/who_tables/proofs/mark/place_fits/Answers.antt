@@ -13,10 +13,9 @@ returns-then-kind-eq3 c = rw (c.both-then-kind-eq3.ensures, ne_eqb _ _ c.if-kind
 
 pub returns : goal.returns
 unfolding place_fits
-returns c = let picked = c in
-    rw (
-      c.both-2.ensures,
-      picked.either.ensures,
-      ne_eqb _ _ picked.if-kind-eq1.false,
-      ne_eqb _ _ picked.if-kind-eq3.false,
-    )
+returns c = rw (
+  c.both-2.ensures,
+  c.either.ensures,
+  ne_eqb _ _ c.if-kind-eq1.false,
+  ne_eqb _ _ c.if-kind-eq3.false,
+)

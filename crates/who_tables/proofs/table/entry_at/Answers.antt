@@ -9,13 +9,10 @@ returns-then-number-ne0 c = rw (← c.entry_refusal-number.ensures, ne_eqb _ _ c
 
 pub returns : goal.returns
 unfolding entry_at
-returns c = let read = c in
-    let first = read in
-    let passed = first in
-    rw (
-      ← passed.entry_refusal-number.ensures,
-      eq-eqb _ _ passed.if-number-ne0.false,
-      c.entry_of.ensures,
-      read.word_at.ensures,
-      first.number_at.ensures,
-    )
+returns c = rw (
+  ← c.entry_refusal-number.ensures,
+  eq-eqb _ _ c.if-number-ne0.false,
+  c.entry_of.ensures,
+  c.word_at.ensures,
+  c.number_at.ensures,
+)

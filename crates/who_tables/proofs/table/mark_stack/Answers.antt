@@ -12,15 +12,13 @@ unfolding apply_writes row
 loop-k-init c = (omega arith, (refl, refl))
 
 pub loop-k-preserved : goal.loop-k-preserved
-loop-k-preserved c = let put = c in
-    let marked = put in
-    let l = marked.loop-k in (
-      omega arith,
-      (
-        rw (apply_more, put.mark_at.ensures.numbers, l.invariant.1.0),
-        rw (apply_more, put.mark_at.ensures.marks, marked.mark_of-mark.ensures, l.invariant.1.1),
-      ),
-    )
+loop-k-preserved c = let l = c.loop-k in (
+  omega arith,
+  (
+    rw (apply_more, c.mark_at.ensures.numbers, l.invariant.1.0),
+    rw (apply_more, c.mark_at.ensures.marks, c.mark_of-mark.ensures, l.invariant.1.1),
+  ),
+)
 
 pub shape_of-numbers : goal.shape_of-numbers
 shape_of-numbers c = rw (c.loop-k.invariant.1.0, length_apply)

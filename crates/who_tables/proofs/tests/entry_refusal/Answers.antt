@@ -10,53 +10,38 @@ returns-then-tables_refused c = simp (← c.tables_refused.ensures, c.if-tables_
 
 pub returns-then-no : goal.returns-then-no
 unfolding entry_refusal first_of
-returns-then-no c = let said = c in
-    let entry = said in
-    let word = entry in
-    let number = word in
-    let passed = number in
-    simp (
-      ← passed.tables_refused.ensures,
-      passed.if-tables_refused.false,
-      ← number.number_at.ensures,
-      ← word.word_at.ensures,
-      ← entry.is_entry.ensures,
-      ← said.no.ensures,
-      c.if-no.true,
-    )
+returns-then-no c = simp (
+  ← c.tables_refused.ensures,
+  c.if-tables_refused.false,
+  ← c.number_at.ensures,
+  ← c.word_at.ensures,
+  ← c.is_entry.ensures,
+  ← c.no.ensures,
+  c.if-no.true,
+)
 
 pub returns-then-numbers-a : goal.returns-then-numbers-a
 unfolding entry_refusal first_of
-returns-then-numbers-a c = let said = c in
-    let entry = said in
-    let word = entry in
-    let number = word in
-    let passed = number in
-    simp (
-      ← passed.tables_refused.ensures,
-      passed.if-tables_refused.false,
-      ← number.number_at.ensures,
-      ← word.word_at.ensures,
-      ← entry.is_entry.ensures,
-      ← said.no.ensures,
-      c.if-no.false,
-      le-leb _ _ c.if-numbers-a.true,
-    )
+returns-then-numbers-a c = simp (
+  ← c.tables_refused.ensures,
+  c.if-tables_refused.false,
+  ← c.number_at.ensures,
+  ← c.word_at.ensures,
+  ← c.is_entry.ensures,
+  ← c.no.ensures,
+  c.if-no.false,
+  le-leb _ _ c.if-numbers-a.true,
+)
 
 pub returns : goal.returns
 unfolding entry_refusal first_of
-returns c = let said = c in
-    let entry = said in
-    let word = entry in
-    let number = word in
-    let passed = number in
-    simp (
-      ← passed.tables_refused.ensures,
-      passed.if-tables_refused.false,
-      ← number.number_at.ensures,
-      ← word.word_at.ensures,
-      ← entry.is_entry.ensures,
-      ← said.no.ensures,
-      c.if-no.false,
-      lt-leb _ _ c.if-numbers-a.false,
-    )
+returns c = simp (
+  ← c.tables_refused.ensures,
+  c.if-tables_refused.false,
+  ← c.number_at.ensures,
+  ← c.word_at.ensures,
+  ← c.is_entry.ensures,
+  ← c.no.ensures,
+  c.if-no.false,
+  lt-leb _ _ c.if-numbers-a.false,
+)

@@ -9,10 +9,8 @@ returns-then-tables_refused c = simp (← c.tables_refused.ensures, c.if-tables_
 
 pub returns-then-settings_refused : goal.returns-then-settings_refused
 unfolding fill_refusal first_of
-returns-then-settings_refused c = let first = c in
-    simp (← first.tables_refused.ensures, first.if-tables_refused.false, ← c.settings_refused.ensures, c.if-settings_refused.true)
+returns-then-settings_refused c = simp (← c.tables_refused.ensures, c.if-tables_refused.false, ← c.settings_refused.ensures, c.if-settings_refused.true)
 
 pub returns : goal.returns
 unfolding fill_refusal first_of
-returns c = let first = c in
-    simp (← first.tables_refused.ensures, first.if-tables_refused.false, ← c.settings_refused.ensures, c.if-settings_refused.false)
+returns c = simp (← c.tables_refused.ensures, c.if-tables_refused.false, ← c.settings_refused.ensures, c.if-settings_refused.false)

@@ -4,6 +4,4 @@ use Rattle.who_tables.proofs.tests.tables_refused.Goals as goal
 
 pub returns : goal.returns
 unfolding tables_refused
-returns c = let not_so = c in
-    let fits = not_so in
-    rw (c.either.ensures, not_so.no.ensures, fits.both.ensures, fits.ram_refused.ensures)
+returns c = rw (c.either.ensures, c.no.ensures, c.both.ensures, c.ram_refused.ensures)

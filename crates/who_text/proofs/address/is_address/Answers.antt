@@ -4,19 +4,14 @@ use Rattle.who_text.proofs.address.is_address.Goals as goal
 
 pub returns : goal.returns
 unfolding is_address
-returns c = let newline = c in
-    let low = newline in
-    let fourth = low in
-    let high = fourth in
-    let second = high in
-    rw (
-      c.both-2.ensures,
-      newline.byte_at.ensures,
-      newline.both.ensures,
-      low.both-low.ensures,
-      fourth.digit_at-4.ensures,
-      fourth.digit_at-3.ensures,
-      high.both-high.ensures,
-      second.digit_at-2.ensures,
-      second.digit_at.ensures,
-    )
+returns c = rw (
+  c.both-2.ensures,
+  c.byte_at.ensures,
+  c.both.ensures,
+  c.both-low.ensures,
+  c.digit_at-4.ensures,
+  c.digit_at-3.ensures,
+  c.both-high.ensures,
+  c.digit_at-2.ensures,
+  c.digit_at.ensures,
+)

@@ -6,8 +6,5 @@ use Rattle.who_text.proofs.line.put_cell_name.Goals as goal
 pub returns : goal.returns
 unfolding cell_name
 returns c =
-    let number = c in
-    let sub = number in
-    let kind = sub in
-    rw (← kind.kind_numbered.ensures)
-    (put_then (put_then kind.put_kind-named.ensures sub.put_bytes-number.ensures) number.put_number.ensures)
+    rw (← c.kind_numbered.ensures)
+    (put_then (put_then c.put_kind-named.ensures c.put_bytes-number.ensures) c.put_number.ensures)

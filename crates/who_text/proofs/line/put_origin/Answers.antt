@@ -6,13 +6,8 @@ use Rattle.who_text.proofs.line.put_origin.Goals as goal
 pub returns : goal.returns
 unfolding origin_line
 returns c =
-    let end = c in
-    let part = end in
-    let comma = part in
-    let number = comma in
-    let told = number in
     put_then
     (put_then
-    (put_then (put_then told.put_bytes-told.ensures number.put_number-comma.ensures) comma.put_bytes-what.ensures)
-    part.put_part-end.ensures)
-    end.put_newline.ensures
+    (put_then (put_then c.put_bytes-told.ensures c.put_number-comma.ensures) c.put_bytes-what.ensures)
+    c.put_part-end.ensures)
+    c.put_newline.ensures

@@ -6,5 +6,4 @@ use Rattle.who_text.proofs.line.put_pointer.Goals as goal
 pub returns : goal.returns
 unfolding pointer_text
 returns c =
-    let cell = c in
-    put_then cell.put_bytes-whose.ensures cell.put_cell_name.ensures
+    put_then c.put_bytes-whose.ensures c.put_cell_name.ensures

@@ -6,5 +6,4 @@ use Rattle.who_text.proofs.line.put_stack.Goals as goal
 pub returns : goal.returns
 unfolding stack_text
 returns c =
-    let name = c in
-    put_then name.put_bytes-which.ensures name.put_stack_name.ensures
+    put_then c.put_bytes-which.ensures c.put_stack_name.ensures

@@ -4,13 +4,9 @@ use Rattle.writes.proofs.carry.carry_out.Goals as goal
 
 pub returns : goal.returns
 returns c =
-    let last = c in
-    let entered = last in
-    let moved = entered in
-    let stored = moved in
     plan_carried _ _ _ _ _ _ _ _ _
-    stored.store_words.ensures
-    moved.move_pointer.ensures
-    entered.put_entry.ensures
-    last.stack_pointer_place.ensures
-    last.put.ensures
+    c.store_words.ensures
+    c.move_pointer.ensures
+    c.put_entry.ensures
+    c.stack_pointer_place.ensures
+    c.put.ensures

@@ -9,9 +9,7 @@ pub overflow_add-lookup_table : goal.overflow_add-lookup_table
 overflow_add-lookup_table c = omega (arith, table_low c.args.s.area)
 
 pub returns-then-d : goal.returns-then-d
-returns-then-d c = let p = c in
-    let k = p in
-    pointer_moved _ _ _ _ _ k.if-d.true k.lookup_table.ensures p.put.ensures
+returns-then-d c = pointer_moved _ _ _ _ _ c.if-d.true c.lookup_table.ensures c.put.ensures
 
 pub returns-else-d : goal.returns-else-d
 returns-else-d c = pointer_kept _ _ _ c.if-d.false

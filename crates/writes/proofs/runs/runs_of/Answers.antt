@@ -4,5 +4,4 @@ use Rattle.writes.proofs.runs.runs_of.Goals as goal
 
 pub returns : goal.returns
 returns c =
-    let begin = c in
-    runs_made begin.args.w begin.args.n _ begin.requires c.smaller-first.ensures
+    runs_made c.args.w c.args.n _ c.requires c.smaller-first.ensures

@@ -12,10 +12,8 @@ loop-k-init c = (omega arith, refl)
 
 pub loop-k-preserved : goal.loop-k-preserved
 loop-k-preserved c =
-    let p = c in
-    let k = p in
-    let l = k.loop-k in
-    (omega arith, rw (apply_more, p.put.ensures, p.word_at.ensures, k.place.ensures, l.invariant.1))
+    let l = c.loop-k in
+    (omega arith, rw (apply_more, c.put.ensures, c.word_at.ensures, c.place.ensures, l.invariant.1))
 
 pub shape_of-reply : goal.shape_of-reply
 shape_of-reply c = rw (c.loop-k.invariant.1, length_apply)

@@ -15,48 +15,35 @@ runs_of-r-requires c =
 
 pub copy_run-requires : goal.copy_run-requires
 copy_run-requires c =
-    let b = c in
-    let t = b in
-    let a = t.args in
-    let s = goes_once_says _ _ _ _ _ _ t.goes_once.ensures t.both.ensures t.if-both.true in
-    let g = two_runs a.w a.n _ s.0.inside s.0.few b.runs_of-r.ensures in
+    let a = c.args in
+    let s = goes_once_says _ _ _ _ _ _ c.goes_once.ensures c.both.ensures c.if-both.true in
+    let g = two_runs a.w a.n _ s.0.inside s.0.few c.runs_of-r.ensures in
     let r = ltb-true a.n (length a.reply.now) s.1 in
     (omega (arith, r, g.all), omega (arith, s.0.fits, g.first_end))
 
 pub overflow_add-r : goal.overflow_add-r
 overflow_add-r c =
-    let b = c in
-    let t = b in
-    let a = t.args in
-    let s = goes_once_says _ _ _ _ _ _ t.goes_once.ensures t.both.ensures t.if-both.true in
-    let g = two_runs a.w a.n _ s.0.inside s.0.few b.runs_of-r.ensures in
+    let a = c.args in
+    let s = goes_once_says _ _ _ _ _ _ c.goes_once.ensures c.both.ensures c.if-both.true in
+    let g = two_runs a.w a.n _ s.0.inside s.0.few c.runs_of-r.ensures in
     omega (arith, g.all)
 
 pub copy_run-requires-then-both : goal.copy_run-requires-then-both
 copy_run-requires-then-both c =
-    let b = c in
-    let t = b in
-    let a = t.args in
-    let s = goes_once_says _ _ _ _ _ _ t.goes_once.ensures t.both.ensures t.if-both.true in
-    let g = two_runs a.w a.n _ s.0.inside s.0.few b.runs_of-r.ensures in
+    let a = c.args in
+    let s = goes_once_says _ _ _ _ _ _ c.goes_once.ensures c.both.ensures c.if-both.true in
+    let g = two_runs a.w a.n _ s.0.inside s.0.few c.runs_of-r.ensures in
     let r = ltb-true a.n (length a.reply.now) s.1 in
     (omega (arith, r, g.all), omega (arith, s.0.fits, g.second_end))
 
 pub returns-then-n-eq1 : goal.returns-then-n-eq1
 unfolding apply_writes row
 returns-then-n-eq1 c =
-    let put = c in
-    let read = put in
-    let at = read in
-    rw (put.put.ensures, read.word_at.ensures, at.place.ensures, at.if-n-eq1.true)
+    rw (c.put.ensures, c.word_at.ensures, c.place.ensures, c.if-n-eq1.true)
 
 pub returns-then-both : goal.returns-then-both
 returns-then-both c =
-    let second = c in
-    let first = second in
-    let b = first in
-    let t = b in
-    let a = t.args in
-    let s = goes_once_says _ _ _ _ _ _ t.goes_once.ensures t.both.ensures t.if-both.true in
-    let g = two_runs a.w a.n _ s.0.inside s.0.few b.runs_of-r.ensures in
-    sent_in_runs a.w a.n _ g a.ram.now a.reply.now _ _ first.copy_run.ensures second.copy_run-then-both.ensures
+    let a = c.args in
+    let s = goes_once_says _ _ _ _ _ _ c.goes_once.ensures c.both.ensures c.if-both.true in
+    let g = two_runs a.w a.n _ s.0.inside s.0.few c.runs_of-r.ensures in
+    sent_in_runs a.w a.n _ g a.ram.now a.reply.now _ _ c.copy_run.ensures c.copy_run-then-both.ensures

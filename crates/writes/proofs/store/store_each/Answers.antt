@@ -11,10 +11,8 @@ unfolding apply_writes row
 loop-k-init c = (omega arith, refl)
 
 pub loop-k-preserved : goal.loop-k-preserved
-loop-k-preserved c = let p = c in
-    let q = p in
-    let l = q.loop-k in
-    (omega arith, rw (apply_more, p.put.ensures, p.word_at.ensures, q.place.ensures, l.invariant.1))
+loop-k-preserved c = let l = c.loop-k in
+    (omega arith, rw (apply_more, c.put.ensures, c.word_at.ensures, c.place.ensures, l.invariant.1))
 
 pub shape_of-ram : goal.shape_of-ram
 shape_of-ram c = rw (c.loop-k.invariant.1, length_apply)

@@ -15,20 +15,17 @@ runs_of-r-requires c =
 pub returns-then-n-eq1 : goal.returns-then-n-eq1
 unfolding apply_writes row
 returns-then-n-eq1 c =
-    let put = c in
-    let at = put in
-    rw (put.put.ensures, at.place.ensures, at.if-n-eq1.true)
+    rw (c.put.ensures, c.place.ensures, c.if-n-eq1.true)
 
 pub returns-then-both : goal.returns-then-both
 returns-then-both c =
-    let second = c in
-    let first = second in
-    let b = first in
+    let b = c in
     let t = b in
     let a = t.args in
     let s = goes_once_says _ _ _ _ _ _ t.goes_once.ensures t.both.ensures t.if-both.true in
     let g = two_runs a.w a.n _ s.0.inside s.0.few b.runs_of-r.ensures in
-    stored_in_runs a.w a.n _ g a.words a.ram.now _ _ first.copy_run.ensures second.copy_run-then-both.ensures
+    stored_in_runs a.w a.n _ g a.words a.ram.now _ _ c.copy_run.ensures c.copy_run-then-both.ensures
+
 pub copy_run-requires : goal.copy_run-requires
 copy_run-requires c =
     let b = c in
@@ -42,12 +39,8 @@ copy_run-requires c =
 
 pub copy_run-requires-then-both : goal.copy_run-requires-then-both
 copy_run-requires-then-both c =
-    let b = c in
-    let t = b in
-    let start = t in
-    let a = start.args in
-    let s = goes_once_says _ _ _ _ _ _ t.goes_once.ensures t.both.ensures t.if-both.true in
-    let g = two_runs a.w a.n _ s.0.inside s.0.few b.runs_of-r.ensures in
+    let a = c.args in
+    let s = goes_once_says _ _ _ _ _ _ c.goes_once.ensures c.both.ensures c.if-both.true in
+    let g = two_runs a.w a.n _ s.0.inside s.0.few c.runs_of-r.ensures in
     let r = leb-true a.n 32 s.1 in
-    (omega (arith, s.0.fits, g.second_end), omega (arith, r, g.all, start.well_formed.1.1.0))
-
+    (omega (arith, s.0.fits, g.second_end), omega (arith, r, g.all, c.well_formed.1.1.0))
