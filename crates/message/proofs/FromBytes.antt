@@ -13,7 +13,7 @@ use Rattle.layout.specs.Layout.{breaks_layout, value_in, read_record, not_read}
 use Rattle.layout.proofs.Places.{layout_kept}
 use Rattle.layout.proofs.Cases.{read_length, read_layout, read_good}
 use Rattle.layout.proofs.Inverse.{reader_takes}
-use Rattle.message.specs.Heard.{Heard, heard_value, heard_bytes}
+use Rattle.message.specs.Heard.{heard_value, heard_bytes}
 use Rattle.message.specs.Tests.{record_tests}
 
 pub record_number : (bytes : List ℕ) → first_of (record_tests (heard_bytes bytes)) ≡ (read_record bytes).number

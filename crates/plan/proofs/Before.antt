@@ -8,7 +8,6 @@ use Rattle.words.specs.declared.settings.Settings.{Settings}
 use Rattle.words.specs.Bits.{word_of}
 use Rattle.words.specs.Command.{transmits}
 use Rattle.records.specs.declared.value.Record.{Record}
-use Rattle.records.specs.Transfer.{is_transfer}
 use Rattle.records.specs.Value.{on_bus_b, has_wrong_sync, has_invalid_word}
 use Rattle.faults.specs.Fault.{expected_words, faults_for, any_fault}
 use Rattle.records.proofs.Before.{plain}

@@ -1,10 +1,9 @@
 -- Bit 6 of the interrupt word is "stack wrapped" and no other rule's.
-use Prim.Native.Nat.{ℕ, ◌+◌, ◌*◌}
+use Prim.Native.Nat.{◌+◌, ◌*◌}
 use native.Mathlib.Omega.{arith}
 use mathlib.Core.Path.{◌≡◌}
-use mathlib.Core.Bool.{Bool, false}
+use mathlib.Core.Bool.{Bool}
 use Rattle.words.specs.Bits.{bit_of, bits_of}
-use Rattle.words.proofs.BitLaws.{bit_small}
 use Rattle.plan.specs.declared.deed.Signals.{Signals}
 use Rattle.plan.specs.Plan.{interrupt_word}
 

@@ -1,5 +1,5 @@
 -- At most 32 words are stored.
-use Prim.Native.Nat.{ℕ, ◌≤◌}
+use Prim.Native.Nat.{◌≤◌}
 use native.Mathlib.Omega.{arith}
 use native.Mathlib.Nat.{min-le_right}
 use mathlib.Core.Logic.{⊎_elim}

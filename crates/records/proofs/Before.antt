@@ -2,7 +2,7 @@
 use Prim.Native.Nat.{ℕ, ◌/◌, ◌%◌, ◌≤◌}
 use native.Mathlib.Omega.{arith}
 use mathlib.Core.Path.{◌≡◌}
-use mathlib.Core.Bool.{Bool, true, false, not, ◌&&◌, ◌||◌, and-true, or-false}
+use mathlib.Core.Bool.{Bool, true, false, not, ◌&&◌, and-true, or-false}
 use lib.Dec.{leb, eqb}
 use borrow.Author.Tests.{eqb-false, ne_eqb, leb-true, le-leb, not-true}
 use Rattle.words.proofs.Basics.{and_left, and_right, or_left, or_right}

@@ -1,5 +1,4 @@
 -- The rules of a transfer, one by one.
-use Prim.Native.Nat.{ℕ}
 use mathlib.Core.Path.{◌≡◌}
 use mathlib.Core.Logic.{◌↔◌, ⊎_elim}
 use mathlib.Core.Bool.{true, false, not, ◌&&◌, ◌||◌}

@@ -1,5 +1,5 @@
 -- What a cell and the stack are like.
-use Rattle.std.specs.Prelude.{ℕ, ◌%◌, false, cond, List, [], ◌∷◌, length, eqb}
+use Rattle.std.specs.Prelude.{ℕ, false, cond, List, [], ◌∷◌, length, eqb}
 use Rattle.words.specs.declared.settings.Settings.{Settings}
 use Rattle.words.specs.Number.{ram_length, bad_settings}
 use Rattle.words.specs.Refusal.{Test, ◌when◌, first_of}

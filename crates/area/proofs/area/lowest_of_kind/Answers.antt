@@ -1,7 +1,6 @@
 -- `lowest_of_kind` meets its contract. The loop's invariant: no number below that of subaddress `sub` is bad.
 use native.Mathlib.Omega.{arith}
 use mathlib.Core.Path.{◌≡◌, sym, ◌∙◌}
-use Rattle.memory.specs.Kind.{cell_number}
 use Rattle.memory.proofs.Numbers.{number_below}
 use Rattle.area.proofs.ByKind.{kind_bad, kind_found, kind_on}
 use Rattle.area.proofs.area.lowest_of_kind.Goals as goal
