@@ -11,7 +11,7 @@ returns c =
     λ i.
     record {
       address = c.word_at-2.ensures i;
-      c = (c.area_from-area.ensures ∙ ap area_from c.word_at.ensures) i;
+      area = (c.area_from-area.ensures ∙ ap area_from c.word_at.ensures) i;
       stack_size = c.word_at-stack_size.ensures i;
       overwrite_invalid = is_yes (c.word_at-overwrite_invalid.ensures i);
       separate_broadcast = is_yes (c.word_at-separate_broadcast.ensures i);
