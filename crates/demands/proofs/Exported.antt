@@ -5,43 +5,31 @@ use mathlib.Core.List.{List, [], ◌∷◌}
 use lib.ListN.{length}
 use borrow.Author.Tests.{ne_eqb}
 use Rattle.words.specs.declared.settings.Settings.{Settings}
-use Rattle.records.specs.declared.value.Record.{Record}
 use Rattle.records.specs.Value.{zero_value}
-use Rattle.layout.specs.declared.reader.Reading.{Reading}
-use Rattle.layout.specs.declared.writer.Written.{Written}
 use Rattle.layout.specs.Layout.{read_record, not_read}
 use Rattle.layout.specs.Writing.{write_record}
-use Rattle.layout_long.specs.declared.value.LongRecord.{LongRecord}
-use Rattle.layout_long.specs.declared.reader.LongReading.{LongReading}
-use Rattle.layout_long.specs.declared.writer.LongWritten.{LongWritten}
-use Rattle.layout_long.specs.Long.{long_tests, zero_long, not_read_long, read_long}
-use Rattle.layout_long.specs.WritingLong.{long_writer_tests, not_long, write_long}
-use Rattle.layout_long.specs.Conversion.{longer_of, shorter_tests, not_short, shorter_of}
+use Rattle.layout_long.specs.Long.{zero_long, not_read_long, read_long}
+use Rattle.layout_long.specs.WritingLong.{not_long, write_long}
+use Rattle.layout_long.specs.Conversion.{longer_of, not_short, shorter_of}
 use Rattle.area.specs.Area.{ground_tests, check_area}
-use Rattle.label.specs.declared.one.CellLabel.{CellLabel}
-use Rattle.label.specs.declared.whole.AreaLabel.{AreaLabel}
-use Rattle.label.specs.Label.{cell_tests, cell_answer, cell_label, area_answer, area_label, pairs_into}
-use Rattle.soundness.specs.declared.cell.CellDescription.{CellDescription}
-use Rattle.soundness.specs.declared.stack.StackDescription.{StackDescription}
-use Rattle.soundness.specs.Described.{given_tests, no_cell, cell_description, no_stack, stack_description}
-use Rattle.message.specs.declared.answer.Answer.{Answer}
-use Rattle.message.specs.Heard.{Heard, heard_bytes}
+use Rattle.label.specs.Label.{cell_answer, cell_label, area_answer, area_label, pairs_into}
+use Rattle.soundness.specs.Described.{no_cell, cell_description, no_stack, stack_description}
+use Rattle.message.specs.Heard.{Heard}
 use Rattle.message.specs.Answer.{refused_with}
-use Rattle.message.specs.Tests.{record_tests, tests_for}
+use Rattle.message.specs.Tests.{tests_for}
 use Rattle.message.proofs.Refusals.{number_told}
-use Rattle.who_origin.specs.declared.origin.Who.{Who}
 use Rattle.who_origin.specs.declared.origin.Who.TheVariants.{Refused}
 use Rattle.who.specs.Tests.{who_tests}
 use Rattle.who.specs.Values.{values_of}
 use Rattle.who.specs.Replay.{heard_in, asked}
-use Rattle.who_tables.specs.Tests.{fill_tests, fill_refusal, entry_tests}
+use Rattle.who_tables.specs.Tests.{fill_tests, fill_refusal}
 use Rattle.who_tables.specs.Table.{Tables, refusal_of, filled_with, entry_at}
 use Rattle.who_tables.proofs.Parts.{filled_refused}
 use Rattle.c_words.specs.Over.{over, zeros_over, record_bytes, long_record_bytes}
 use Rattle.c_words.specs.Setup.{settings_from}
 use Rattle.c_words_messages.specs.Answers.{answer_words}
 use Rattle.c_words_messages.specs.Values.{value_from, value_words, value_length}
-use Rattle.c_words_messages.specs.Call.{Lent, state_in, handed_back, call_number, lent_after}
+use Rattle.c_words_messages.specs.Call.{state_in, handed_back, call_number, lent_after}
 use Rattle.c_words_long.specs.LongValues.{long_from, long_words, long_length}
 use Rattle.c_words_areas.specs.Check.{check_word}
 use Rattle.c_words_areas.specs.Labels.{sharer_words, listing_words, listing_length, count_words, counts_length, unsound_length}
@@ -55,9 +43,9 @@ use Rattle.c_long.proofs.calls as long-calls
 use Rattle.c_questions.proofs.calls
 use Rattle.c_questions.proofs.descriptions
 use Rattle.c_who.proofs.origins
-use Rattle.demands.specs.Calls.{Message, message_of, CMessage, c_bytes, c_value, c_long}
+use Rattle.demands.specs.Calls.{message_of, CMessage, c_bytes, c_value, c_long}
 use Rattle.demands.specs.Meets.{Meets}
-use Rattle.demands.specs.First.{AnsweredOnly, CheckAnswered, writer_tests, not_written}
+use Rattle.demands.specs.First.{AnsweredOnly, CheckAnswered, not_written}
 use Rattle.demands.specs.Exports.{leaving}
 use Rattle.demands.specs.Handed.{shown_by, MessageExported}
 use Rattle.demands.specs.Filled.{exported_part}

@@ -1,9 +1,9 @@
 -- What a message leaves in RAM, what is remembered and what it shows do not depend on what the reply buffer held, as long
 -- as there is room for a reply.
 use Prim.Native.Nat.{ℕ, ◌≤◌}
-use mathlib.Core.Path.{◌≡◌, refl, sym, ap, ◌∙◌}
+use mathlib.Core.Path.{◌≡◌, ap, ◌∙◌}
 use mathlib.Core.Logic.{⊎_elim}
-use mathlib.Core.List.{List, [], ◌∷◌}
+use mathlib.Core.List.{List}
 use lib.ListN.{length}
 use borrow.Author.Tests.{le-ltb, eq-eqb, ne_eqb}
 use Rattle.words.specs.declared.settings.Settings.{Settings}
@@ -16,7 +16,7 @@ use Rattle.message.specs.Heard.{Heard}
 use Rattle.message.specs.Tests.{refusal_for}
 use Rattle.message.specs.Message.{plan_for, carried_out, state_for, answer_of, step}
 use Rattle.message.specs.Answer.{answer_for}
-use Rattle.message.specs.Run.{Effect, effect_of}
+use Rattle.message.specs.Run.{effect_of}
 
 -- two states with the same RAM and the same remembered state, and room for a reply in each
 pub record Alike (x y : State) : Type 0 where

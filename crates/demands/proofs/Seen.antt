@@ -2,7 +2,7 @@
 use Prim.Native.Nat.{ℕ, ◌+◌, ◌≤◌, ◌<◌}
 use native.Mathlib.Omega.{arith}
 use mathlib.Core.Path.{◌≡◌, refl, sym, ap, ◌∙◌}
-use mathlib.Core.List.{List, [], ◌∷◌, ◌++◌, map}
+use mathlib.Core.List.{List, [], ◌∷◌}
 use lib.ListN.{length, get_or, take, drop, length-drop}
 use lib.Seq.{take-append_seam, length-take-le, get_or-take, get_or-drop, ext_get_or}
 use borrow.Author.Tests.{eq-eqb}
@@ -11,7 +11,6 @@ use Rattle.memory.specs.State.{State}
 use Rattle.cells.specs.Stack.{stack_pointer}
 use Rattle.writes.specs.Writes.{descriptor_of}
 use Rattle.writes.specs.Reply.{reply_words}
-use Rattle.message.specs.declared.answer.Answer.{Answer}
 use Rattle.message.specs.Heard.{Heard}
 use Rattle.message.specs.Tests.{refusal_for}
 use Rattle.message.specs.Message.{plan_for, answer_of, step}

@@ -1,5 +1,5 @@
 -- A walk is a chain of messages, one for each whole record.
-use Prim.Native.Nat.{ℕ, zero, suc, ◌+◌, ◌%◌, ◌^◌, ◌<◌}
+use Prim.Native.Nat.{ℕ, zero, suc}
 use native.Mathlib.Omega.{arith}
 use mathlib.Core.Path.{◌≡◌, refl, sym, ap, ◌∙◌}
 use mathlib.Core.List.{List, [], ◌∷◌, ◌++◌, map, map-append, append_assoc, append-nil}
@@ -9,7 +9,7 @@ use Rattle.words.specs.declared.settings.Settings.{Settings}
 use Rattle.memory.specs.State.{State}
 use Rattle.message.specs.declared.answer.Answer.{Answer}
 use Rattle.message.specs.Heard.{Heard, heard_bytes}
-use Rattle.message.specs.Message.{answer_of, step}
+use Rattle.message.specs.Message.{step}
 use Rattle.text.specs.Line.{line_of}
 use Rattle.trace.specs.Walk as T
 use Rattle.trace.proofs.Walks.{walk_number}

@@ -37,7 +37,7 @@ use Rattle.message.proofs.Refusals.{message_done, number_told, accepted_answer, 
 use Rattle.message.proofs.Sure.{Sure, accepted_sure}
 use Rattle.message.proofs.Step.{after_message, after_made, stored_stands, lookup_after, entry_stands, stack_moves}
 use Rattle.demands.specs.Calls.{Message}
-use Rattle.demands.specs.Meets.{deed, Untouched, Worked, MessageWorked}
+use Rattle.demands.specs.Meets.{Untouched, Worked, MessageWorked}
 use Rattle.demands.proofs.Sent.{words_told}
 
 -- an address that none of a plan's writes names

@@ -1,7 +1,6 @@
 -- The calls for a message and for a walk of a trace, and what each shows, in the definitions' words.
 use Rattle.std.specs.Prelude.{ℕ, List}
 use Rattle.words.specs.declared.settings.Settings.{Settings}
-use Rattle.words.specs.declared.remembered.Remembered.{Remembered}
 use Rattle.memory.specs.State.{State, state_of}
 use Rattle.message.specs.declared.answer.Answer.{Answer}
 use Rattle.message.specs.Heard.{Heard, heard_value, heard_bytes, heard_long}

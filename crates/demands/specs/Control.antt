@@ -2,7 +2,7 @@
 -- the stated order."; and that a caller goes on from what a run left. Demands 2 and 3 do not speak of it.
 -- To believe: the tests of its entry points (`start_tests`, `go_on_tests`), what `Answered.antt` and `Exports.antt` name, and
 -- what its functions answer (`started_at`, `gone_on`) and leave in a lent machine (`machine_left`).
-use Rattle.std.specs.Prelude.{◌≤◌, ◌≡◌, List, [], ◌∷◌, length}
+use Rattle.std.specs.Prelude.{◌≤◌, ◌≡◌, [], ◌∷◌, length}
 use Rattle.control.specs.Machine.{refusal_in}
 use Rattle.control.specs.Start.{not_run, start_tests, started_at, go_on_tests, gone_on}
 use Rattle.c_words.specs.Over.{over, zeros_over}

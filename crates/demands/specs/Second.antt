@@ -5,7 +5,6 @@
 -- To believe: what `Meets` names; the layout, `value_in` and `bytes_of`, with `Typed` and `Bytes`, what the types of a value
 -- and of bytes say; `read_back` and `write_back`; of long records `long_in`, `long_bytes`, `long_read_back`, `long_write_back`.
 use Rattle.std.specs.Prelude.{◌+◌, ◌≡◌, true, List, map, length, get_or, take, drop}
-use Rattle.words.specs.declared.remembered.Remembered.{Remembered}
 use Rattle.records.specs.Value.{Typed}
 use Rattle.layout.specs.Layout.{Bytes, word_at, value_in}
 use Rattle.layout.specs.Writing.{bytes_of}
