@@ -1,9 +1,8 @@
 -- Words put behind those of a value.
 use Prim.Native.Nat.{ℕ}
-use mathlib.Core.Path.{◌≡◌, sym, ◌∙◌}
-use mathlib.Core.List.{List, [], ◌∷◌, ◌++◌}
+use mathlib.Core.Path.{◌≡◌}
+use mathlib.Core.List.{List, [], ◌∷◌}
 use lib.ListN.{length, set, length-append}
-use lib.Seq.{sets}
 use Rattle.words.proofs.Runs.{sets_append}
 use Rattle.records.specs.declared.value.Record.{Record}
 use Rattle.c_words.specs.Over.{over}

@@ -106,7 +106,7 @@ expected =
           says (0x9E00 ∷ 8 ∷ 0x500 ∷ 0x2883 ∷ 0x8880 ∷ 7 ∷ 0x4FE ∷ 0x2864 ∷ []) none
           ([] ∷ (0x2800 ∷ []) ∷ []) (0x13 ∷ 3 ∷ []) 0x2864 0x2800;
     }
-    -- oneCell: the words sent are not those that the messages sent before
+    -- one_cell: the words sent are not those that the messages sent before
     ∷ record {
       asks = false;
       old =
@@ -153,7 +153,7 @@ expected =
       new = order (0 ∷ []) (2 ∷ 2 ∷ []) ([] ∷ [] ∷ []) (0 ∷ 0 ∷ []) 0 0;
       said = says (none ++ none) none ([] ∷ [] ∷ []) (0 ∷ 0 ∷ []) 0x2861 0;
     }
-    -- modeCommand: 7
+    -- mode_command: 7
     ∷ record {
       asks = false;
       old = order (4 ∷ []) (0 ∷ 7 ∷ []) ((0x2800 ∷ []) ∷ [] ∷ []) (3 ∷ 0 ∷ []) 0x2861 0x2800;

@@ -2,9 +2,9 @@
 use Rattle.std.proofs.Common.{◌≡◌, ℕ, zero, suc, ◌+◌, ◌-◌, ◌*◌, ◌%◌, ◌^◌, ◌<◌, ◌≤◌, List, length, take, drop, refl, add-one, arith, length-append}
 use Rattle.words.specs.declared.settings.Settings.{Settings}
 use Rattle.words.specs.declared.remembered.Remembered.{Remembered}
-use Rattle.memory.specs.State.{State, state_of}
+use Rattle.memory.specs.State.{state_of}
 use Rattle.message.specs.Heard.{heard_bytes}
-use Rattle.message.specs.Message.{answer_of, step}
+use Rattle.message.specs.Message.{answer_of}
 use Rattle.trace.specs.declared.walk.Walked.{Walked}
 use Rattle.text.specs.Text.{Put, PutFirst}
 use Rattle.text.specs.Line.{line_of}

@@ -1,13 +1,13 @@
 -- The tests of the question about one address: those of a replay, and one more.
 use Prim.Native.Nat.{ℕ}
 use mathlib.Core.Path.{◌≡◌, refl, sym, ◌∙◌}
-use mathlib.Core.List.{List, [], ◌∷◌}
+use mathlib.Core.List.{[], ◌∷◌}
 use lib.Dec.{leb}
 use Rattle.words.specs.declared.settings.Settings.{Settings}
 use Rattle.words.specs.Number.{address_beyond}
 use Rattle.words.specs.Refusal.{◌when◌, first_of}
 use Rattle.words.proofs.Refusals.{first_stops, first_passes}
-use Rattle.who.specs.Tests.{replay_tests, replay_refusal, who_tests, who_refusal}
+use Rattle.who.specs.Tests.{replay_tests, replay_refusal, who_refusal}
 
 -- tested in turn
 pub who_stops : (words : ℕ) (s : Settings) (a n : ℕ) → n ≡ replay_refusal words s → (n ≡ 0 → ⊥) → n ≡ who_refusal words s a

@@ -109,7 +109,7 @@ fn who(
     print(rt, b"address\n", 8, true);
 }
 
-// The buffer holds 819 records; a line has at most 103 bytes (`line-room` of who_text).
+// The buffer holds 819 records; a line has at most 103 bytes (`line_room` of who_text).
 fn main(rt: HostRuntime) {
     let mut ram = [0u16; 4096];
     let mut line = [0u8; 5];

@@ -1,19 +1,14 @@
 -- How long the answer's line is.
 use Prim.Native.Nat.{ℕ, ◌%◌, ◌≤◌}
 use native.Mathlib.Omega.{arith}
-use mathlib.Core.Bool.{Bool, true, false, cond}
-use mathlib.Core.List.{List}
 use lib.ListN.{length, length-append}
 use lib.Dec.{eqb}
-use Rattle.memory.specs.declared.kind.Kind.{Kind}
-use Rattle.memory.specs.declared.kind.Kind.TheVariants.{Receive, Transmit, Broadcast}
 use Rattle.memory.specs.Kind.{kind_numbered}
 use Rattle.text.proofs.Runs.{length_hex}
 use Rattle.text.proofs.Numerals.{decimal_most}
 use Rattle.wording.proofs.Lengths.{kind_most, either_most, refused_most}
 use Rattle.writes.specs.declared.part.Part.{Part}
 use Rattle.writes.specs.declared.part.Part.TheVariants.{Data, Pointer, Stack, StackPointer}
-use Rattle.who_origin.specs.declared.origin.Origin.{Origin}
 use Rattle.who_origin.specs.declared.origin.Who.{Who}
 use Rattle.who_origin.specs.declared.origin.Who.TheVariants.{Refused, AsInImage, Written}
 use Rattle.who_text.specs.Line.{cell_name, stack_name, data_text, pointer_text, stack_text, part_text, origin_line, answer_line, who_line}

@@ -1,5 +1,4 @@
 -- `put_machine` meets its contract.
-use mathlib.Core.Path.{◌∙◌}
 use Rattle.c_control.specs.Numbers.{machine_numbers}
 use Rattle.c_control.proofs.numbers.put_machine.Goals as goal
 

@@ -1,5 +1,4 @@
 -- `fill_record` meets its contract: from what was taken of the record.
-use Rattle.std.proofs.Common.{rules}
 use Rattle.who_tables.specs.Table.{tables_of}
 use Rattle.who_replay.proofs.Filling.{fill_refused, fill_done}
 use Rattle.who_replay.proofs.fill.fill_record.Goals as goal

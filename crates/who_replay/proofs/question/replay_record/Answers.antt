@@ -1,5 +1,4 @@
 -- `replay_record` meets its contract: from what was taken of the record.
-use Rattle.std.proofs.Common.{rules}
 use Rattle.who.specs.Replay.{replay_of}
 use Rattle.who_replay.proofs.Recorded.{replay_refused, replay_done}
 use Rattle.who_replay.proofs.question.replay_record.Goals as goal
