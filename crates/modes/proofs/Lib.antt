@@ -1,0 +1,5 @@
+pub mod Places
+pub mod Rules
+pub mod Forms
+pub mod Codes
+pub mod Determined

@@ -1,0 +1,54 @@
+// The mode codes that a rule names, and what a mode command's code says by itself.
+ghost use Rattle.std.specs.Prelude.{◌≡◌};
+ghost use Rattle.modes.specs.Code.{brings_word, fetches_word, mode_words, recalls};
+
+use words::choose::{both, either, no, pick};
+use words::command;
+
+pub const TRANSMIT_STATUS_WORD: u16 = 2;
+
+pub const TRANSMITTER_SHUTDOWN: u16 = 4;
+
+pub const OVERRIDE_SHUTDOWN: u16 = 5;
+
+pub const INHIBIT_TERMINAL_FLAG: u16 = 6;
+
+pub const OVERRIDE_INHIBIT: u16 = 7;
+
+pub const RESET_TERMINAL: u16 = 8;
+
+pub const TRANSMIT_LAST_COMMAND: u16 = 18;
+
+// A receive command whose code has a data word.
+pub fn brings_word(command: u16) -> bool
+    ensures { result ≡ brings_word command }
+{
+    let code = command::count_field(command);
+    both(no(command::transmit(command)), 16 <= code)
+}
+
+// A transmit command whose code has a data word.
+pub fn fetches_word(command: u16) -> bool
+    ensures { result ≡ fetches_word command }
+{
+    let code = command::count_field(command);
+    both(command::transmit(command), 16 <= code)
+}
+
+// How many words are expected of a mode command.
+pub fn mode_words(command: u16) -> u16
+    ensures { result ≡ mode_words command }
+{
+    pick(brings_word(command), 1, 0)
+}
+
+// Transmit status word and transmit last command return what was remembered before them.
+pub fn recalls(command: u16) -> bool
+    ensures { result ≡ recalls command }
+{
+    let code = command::count_field(command);
+    both(
+        command::mode_subaddress(command),
+        either(code == TRANSMIT_STATUS_WORD, code == TRANSMIT_LAST_COMMAND),
+    )
+}
