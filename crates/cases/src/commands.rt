@@ -1,31 +1,36 @@
 // A command word: its fields, whose it is, and what the tables say of it.
-use crate::show::show;
+use crate::show::{Answer, tell};
 use memory::map::{is_busy_at, is_illegal_at};
+use std::io::Print;
 use words::command;
 use words::settings::{Settings, is_broadcast, is_not_ours, is_own};
 
-pub(crate) fn command(rt: &HostRuntime, ram: &[u16], s: Settings, w: u16) {
-    show(
+pub(crate) fn command(rt: &impl Print, ram: &[u16], s: Settings, w: u16) {
+    tell(rt, format_args!(" address {}", command::address(w)));
+    tell(
         rt,
-        b" address % transmit ? subaddress % count field % words % mode ? own ? broadcast ? not ours ?",
-        [
-            command::address(w),
-            command::transmit(w) as u16,
-            command::subaddress(w),
-            command::count_field(w),
-            command::word_count(w),
-            command::mode_subaddress(w) as u16,
-            is_own(s, w) as u16,
-            is_broadcast(s, w) as u16,
-            is_not_ours(s, w) as u16,
-        ],
+        format_args!(" transmit {}", Answer(command::transmit(w))),
     );
-    let own = !is_broadcast(s, w);
-    let busy = is_busy_at(ram, own, w) as u16;
-    let illegal = is_illegal_at(ram, own, w) as u16;
-    show(
+    tell(rt, format_args!(" subaddress {}", command::subaddress(w)));
+    tell(rt, format_args!(" count field {}", command::count_field(w)));
+    tell(rt, format_args!(" words {}", command::word_count(w)));
+    tell(
         rt,
-        b" busy ? illegal ?",
-        [busy, illegal, 0, 0, 0, 0, 0, 0, 0],
+        format_args!(" mode {}", Answer(command::mode_subaddress(w))),
+    );
+    tell(rt, format_args!(" own {}", Answer(is_own(s, w))));
+    tell(
+        rt,
+        format_args!(" broadcast {}", Answer(is_broadcast(s, w))),
+    );
+    tell(rt, format_args!(" not ours {}", Answer(is_not_ours(s, w))));
+    let own = !is_broadcast(s, w);
+    tell(
+        rt,
+        format_args!(" busy {}", Answer(is_busy_at(ram, own, w))),
+    );
+    tell(
+        rt,
+        format_args!(" illegal {}", Answer(is_illegal_at(ram, own, w))),
     );
 }

@@ -1,20 +1,20 @@
 // A line of the script: a name, and hexadecimal numbers after it.
-ghost use Rattle.std.specs.Prelude.{◌<◌, ◌≤◌, length};
+ghost use Rattle.std.specs.Prelude.{◌<◌, IfSome};
 
-use crate::names;
-use crate::show::digit;
-use words::choose::either;
+use crate::verb::Verb;
 
-// A line as far as it is read: its name, its numbers from 1 on, how many there are, whether a space came last, its end,
-// and where the next one begins.
-#[derive(Clone, Copy)]
-pub(crate) struct Line {
-    pub name: u64,
-    pub numbers: [u16; 8],
-    pub count: usize,
-    pub gap: bool,
-    pub end: usize,
-    pub next: usize,
+// What a heading begins with, as a number whose byte it is.
+const HEADING: u64 = b'#' as u64;
+
+// A line as far as it is read: the letters of its name, its numbers from 1 on, how many there are, whether a space came
+// last, and whether something in it is none of ours.
+#[derive(Clone, Copy, Default)]
+struct Reading {
+    letters: u64,
+    numbers: [u16; 8],
+    count: usize,
+    gap: bool,
+    nonsense: bool,
 }
 
 // The numbers of a whole line. Those that it leaves out are 0.
@@ -29,72 +29,81 @@ pub(crate) struct Numbers {
     pub count: usize,
 }
 
-// The line with a byte more. A name of more than seven letters is none of ours, whatever is left of it. A number has up
-// to four digits, and there are up to six. Of a hexadecimal digit's byte, `d` is the value; of another it is not.
-fn longer(line: Line, b: u8) -> Line {
-    let mut l = line;
-    if l.name == names::HEADING {
-        return l;
-    }
-    if b == b' ' {
-        l.gap = l.name != 0;
-        return l;
-    }
-    if l.gap {
-        l.count = l.count % 7 + 1;
-        l.gap = false;
-    }
-    let k = l.count % 8;
-    if k == 0 {
-        l.name = l.name % 0x100_0000_0000_0000 * 256 + b as u64;
-        return l;
-    }
-    let n = l.numbers[k];
-    let d = (b % 16 + b / 64 * 9) as u16;
-    l.numbers[k] = n % 4096 * 16 + d % 16;
-    if either(k == 7, either(4095 < n, digit(d) != b)) {
-        l.name = names::NONSENSE;
-    }
-    l
+#[derive(Clone, Copy)]
+pub(crate) enum Line {
+    Heading,
+    Case(Verb, Numbers),
+    NotUnderstood,
 }
 
-// The line that begins at `from`.
-pub(crate) fn read_line(text: &[u8], from: usize) -> Line
-    requires { from < length text.now }
-    ensures ends { (from ≤ result.end) × (result.end ≤ length text.now) }
-    ensures goes_on { (from < result.next) × (result.next ≤ length text.now) }
+// A digit's value, where the byte is one of `0` to `9` and `A` to `F`.
+fn digit(b: u8) -> Option<u16>
+    ensures { IfSome result (λ value. value < 16) }
 {
-    let mut l = Line {
-        name: 0,
-        numbers: [0; 8],
-        count: 0,
-        gap: false,
-        end: from,
-        next: from,
-    };
-    let mut i = from;
-    while i < text.len() && text[i] != 10 {
-        l = longer(l, text[i]);
-        i += 1;
+    match b {
+        b'0'..=b'9' => Some(u16::from(b - b'0')),
+        b'A'..=b'F' => Some(u16::from(b - b'A' + 10)),
+        _ => None,
     }
-    l.end = i;
-    if i < text.len() {
-        l.next = i + 1;
-        return l;
-    }
-    l.next = i;
-    l
 }
 
-pub(crate) fn numbers_of(line: Line) -> Numbers {
-    let n = line.numbers;
-    Numbers {
-        a: n[1],
-        b: n[2],
-        c: n[3],
-        d: n[4],
-        e: n[5],
-        f: n[6],
-        count: line.count,
+impl Reading {
+    // The line with a byte more. Of a name's letters the last eight are kept: no name of ours has as many. A number has
+    // up to four digits, and there are up to six.
+    fn longer(self, b: u8) -> Reading {
+        let mut line = self;
+        if line.letters == HEADING {
+            return line;
+        }
+        if b == b' ' {
+            line.gap = line.letters != 0;
+            return line;
+        }
+        if line.gap {
+            line.count = line.count % 7 + 1;
+            line.gap = false;
+        }
+        if line.count == 0 {
+            line.letters = (line.letters << 8) | u64::from(b);
+            return line;
+        }
+        line.with_digit(b)
+    }
+
+    fn with_digit(self, b: u8) -> Reading {
+        let mut line = self;
+        let k = line.count % 8;
+        let number = line.numbers[k];
+        match digit(b) {
+            Some(value) if k < 7 && number < 0x1000 => line.numbers[k] = number * 16 + value,
+            _ => line.nonsense = true,
+        }
+        line
+    }
+}
+
+impl Line {
+    pub(crate) fn read(text: &[u8]) -> Line {
+        let mut line = Reading::default();
+        for &b in text {
+            line = line.longer(b);
+        }
+        if line.letters == HEADING {
+            return Line::Heading;
+        }
+        let [_, a, b, c, d, e, f, _] = line.numbers;
+        let numbers = Numbers {
+            a,
+            b,
+            c,
+            d,
+            e,
+            f,
+            count: line.count,
+        };
+        match Verb::spelled(line.letters) {
+            Some(verb) if !line.nonsense => Line::Case(verb, numbers),
+            _ => Line::NotUnderstood,
+        }
     }
 }

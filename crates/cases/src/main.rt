@@ -10,7 +10,6 @@ mod controller;
 mod lines;
 mod long;
 mod messages;
-mod names;
 mod origins;
 mod pairs;
 mod ram;
@@ -18,6 +17,7 @@ mod ranges;
 mod reading;
 mod script;
 mod show;
+mod verb;
 
 use streams::input::fill;
 

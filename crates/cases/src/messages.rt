@@ -1,98 +1,96 @@
 // Messages, given to the terminal as values or as bytes.
-use crate::bench::{Bench, after, built};
+use crate::bench::Bench;
 use crate::lines::Numbers;
 use crate::long::long_of;
-use crate::names::RECORD;
-use crate::ram::front;
-use crate::reading;
+use crate::ram::{front, front_of};
 use crate::reading::bytes_of;
-use crate::show::{show, tell, word};
+use crate::show::tell;
+use crate::verb::Verb;
 use message::answer::Outcome;
 use message::long::message_from_long;
 use message::serve::{message_from_bytes, message_from_value};
+use std::io::Print;
 
 // The columns of a trace line, then the cell's number and what is remembered.
-fn outcome(rt: &HostRuntime, o: Outcome) {
+fn outcome(rt: &impl Print, o: Outcome) {
     let a = o.answer;
     let r = o.remembered;
-    show(
-        rt,
-        b" % $ $ $ ",
-        [a.number, a.block_status, a.before, a.after, 0, 0, 0, 0, 0],
-    );
+    tell(rt, format_args!(" {} {:04X}", a.number, a.block_status));
+    tell(rt, format_args!(" {:04X} {:04X} ", a.before, a.after));
     if a.answered {
-        word(rt, a.status);
+        tell(rt, format_args!("{:04X}", a.status));
     } else {
-        tell(rt, b"none");
+        tell(rt, "none");
     }
-    show(
+    tell(
         rt,
-        b" % $ cell % remembers $ $\n",
-        [a.sent, a.interrupt, a.cell, r.command, r.status, 0, 0, 0, 0],
+        format_args!(" {} {:04X} cell {}", a.sent, a.interrupt, a.cell),
+    );
+    tell(
+        rt,
+        format_args!(" remembers {:04X} {:04X}\n", r.command, r.status),
     );
 }
 
 // The record at hand, as a value, `n` times and at least once: what comes of the last.
 pub(crate) fn served(ram: &mut [u16], reply: &mut [u16], b: Bench, n: u16) -> Outcome {
-    let s = b.settings;
-    let r = b.remembered;
-    let v = b.record;
-    let mut o = message_from_value(front(ram, b.ram), front(reply, b.room), s, r, v);
-    let mut left = n;
-    while 1 < left {
-        let last = o.remembered;
-        o = message_from_value(front(ram, b.ram), front(reply, b.room), s, last, v);
-        left -= 1;
+    let mut o = served_once(ram, reply, b);
+    for _ in 1..n {
+        o = served_once(ram, reply, b.after(o));
     }
     o
 }
 
+fn served_once(ram: &mut [u16], reply: &mut [u16], b: Bench) -> Outcome {
+    let ram = front(ram, b.ram);
+    let reply = front(reply, b.room);
+    message_from_value(ram, reply, b.settings, b.remembered, b.record)
+}
+
 // A message made from the line's numbers.
 pub(crate) fn message(
-    rt: &HostRuntime,
-    ram: &mut [u16; 65792],
-    reply: &mut [u16; 64],
+    rt: &impl Print,
+    ram: &mut [u16],
+    reply: &mut [u16],
     b: Bench,
     n: Numbers,
 ) -> Bench {
-    let next = built(b, RECORD, n);
-    let o = served(ram, reply, next, 1);
+    let next = b.built(Verb::Record, n);
+    let o = served_once(ram, reply, next);
     outcome(rt, o);
-    after(next, o)
+    next.after(o)
 }
 
 // The record at hand, as bytes: as many as the first number says.
 pub(crate) fn bytes(
-    rt: &HostRuntime,
+    rt: &impl Print,
     ram: &mut [u16],
     reply: &mut [u16],
     b: Bench,
     n: Numbers,
 ) -> Bench {
-    let s = b.settings;
-    let r = b.remembered;
-    let v = b.record;
-    let record = bytes_of(v, n);
-    let bytes = reading::front(&record, n.a);
-    let o = message_from_bytes(front(ram, b.ram), front(reply, b.room), s, r, bytes);
+    let record = bytes_of(b.record, n);
+    let bytes = front_of(&record, usize::from(n.a));
+    let ram = front(ram, b.ram);
+    let reply = front(reply, b.room);
+    let o = message_from_bytes(ram, reply, b.settings, b.remembered, bytes);
     outcome(rt, o);
-    after(b, o)
+    b.after(o)
 }
 
 // The record at hand as a long one: as many bytes as the first number says.
 pub(crate) fn heard(
-    rt: &HostRuntime,
+    rt: &impl Print,
     ram: &mut [u16],
     reply: &mut [u16],
     b: Bench,
     n: Numbers,
 ) -> Bench {
-    let s = b.settings;
-    let r = b.remembered;
-    let v = b.record;
-    let record = long_of(v, n);
-    let bytes = reading::front(&record, n.a);
-    let o = message_from_long(front(ram, b.ram), front(reply, b.room), s, r, bytes);
+    let record = long_of(b.record, n);
+    let bytes = front_of(&record, usize::from(n.a));
+    let ram = front(ram, b.ram);
+    let reply = front(reply, b.room);
+    let o = message_from_long(ram, reply, b.settings, b.remembered, bytes);
     outcome(rt, o);
-    after(b, o)
+    b.after(o)
 }

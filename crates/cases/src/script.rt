@@ -1,132 +1,105 @@
 // The script, line by line.
-use crate::bench::Bench;
-use crate::lines::{Numbers, numbers_of, read_line};
-use crate::show::{show, tell};
-use crate::{
-    bench, blocks, commands, controller, long, messages, names, origins, pairs, ram, ranges,
-    reading,
-};
+use crate::bench::{self, Bench};
+use crate::lines::{Line, Numbers};
+use crate::show::{tell, tell_bytes};
+use crate::verb::Verb;
+use crate::{blocks, commands, controller, long, messages, origins, pairs, ram, ranges, reading};
 use memory::ram::put;
+use std::io::Print;
 
 // A line that asks, whose answer stands behind it.
-fn asked(
-    rt: &HostRuntime,
-    memory: &[u16],
-    reply: &[u16],
-    b: Bench,
-    name: u64,
-    n: Numbers,
-    number: u16,
-) {
-    let s = b.settings;
-    let v = b.record;
-    match name {
-        names::COMMAND => commands::command(rt, memory, s, n.a),
-        names::READ => reading::read(rt, v, n),
-        names::WRITE => reading::write(rt, v),
-        names::LONG => long::read(rt, v, n),
-        names::OPCODE => controller::opcode(rt, n),
-        names::FLAGS => controller::flags(rt, n),
-        names::OUTCOME => controller::outcome(rt, v),
-        names::LEGAL | names::LENGTHS | names::PLACES => {
-            tell(rt, b" ");
-            ranges::answers(rt, memory, b, name, n);
-        }
-        names::BLOCK => blocks::moved(rt, n.a, n.b, n.c),
-        names::CELL => blocks::cell(rt, memory, b, n),
-        names::RAM => ram::shown(rt, memory, n.a, n.b),
-        names::REPLY => ram::shown(rt, reply, n.a, n.b),
-        _ => show(
-            rt,
-            b" line % is not understood",
-            [number, 0, 0, 0, 0, 0, 0, 0, 0],
-        ),
+fn asked(rt: &impl Print, memory: &[u16], reply: &[u16], b: Bench, verb: Verb, n: Numbers) {
+    match verb {
+        Verb::Command => commands::command(rt, memory, b.settings, n.a),
+        Verb::Read => reading::read(rt, b.record, n),
+        Verb::Write => reading::write(rt, b.record),
+        Verb::Long => long::read(rt, b.record, n),
+        Verb::Opcode => controller::opcode(rt, n),
+        Verb::Flags => controller::flags(rt, n),
+        Verb::Outcome => controller::outcome(rt, b.record),
+        Verb::Block => blocks::moved(rt, n.a, n.b, n.c),
+        Verb::Cell => blocks::cell(rt, memory, b, n),
+        Verb::Ram => ram::shown(rt, memory, n.a, n.b),
+        Verb::Reply => ram::shown(rt, reply, n.a, n.b),
+        _ => ranges::answers(rt, memory, b, verb, n),
     }
 }
 
 // A line that is printed, with its answer. A check has a word put first, if there is one.
 fn answered(
-    rt: &HostRuntime,
-    text: &[u8],
+    rt: &impl Print,
     memory: &mut [u16; 65792],
     reply: &mut [u16; 64],
     b: Bench,
-    name: u64,
+    verb: Verb,
     n: Numbers,
-    number: u16,
 ) -> Bench {
-    tell(rt, text);
-    tell(rt, b":");
-    match name {
-        names::MESSAGE => return messages::message(rt, memory, reply, b, n),
-        names::BYTES => return messages::bytes(rt, memory, reply, b, n),
-        names::PART => return origins::part(rt, memory, b, n),
-        names::HEARD => return messages::heard(rt, memory, reply, b, n),
-        names::CONTROL => return controller::control(rt, memory, b, n),
-        names::ON => return controller::on(rt, memory, b, n),
-        names::ORDER => {
-            let s = b.settings;
-            pairs::order(rt, *memory, s, n);
-        }
-        names::CHECK => {
+    match verb {
+        Verb::Message => return messages::message(rt, memory, reply, b, n),
+        Verb::Bytes => return messages::bytes(rt, memory, reply, b, n),
+        Verb::Part => return origins::part(rt, memory, b, n),
+        Verb::Heard => return messages::heard(rt, memory, reply, b, n),
+        Verb::Control => return controller::control(rt, memory, b, n),
+        Verb::On => return controller::on(rt, memory, b, n),
+        Verb::Order => pairs::order(rt, *memory, b.settings, n),
+        Verb::Check => {
             if n.count == 2 {
-                put(memory, n.a as usize, n.b);
+                put(memory, usize::from(n.a), n.b);
             }
             blocks::check(rt, memory, b);
         }
-        _ => asked(rt, memory, reply, b, name, n, number),
+        _ => asked(rt, memory, reply, b, verb, n),
     }
-    tell(rt, b"\n");
+    tell(rt, "\n");
     b
 }
 
-// A line that builds what a case needs, or a heading. Any other is printed, with its answer.
+// A line that builds what a case needs. Any other is printed, with its answer.
 fn done(
-    rt: &HostRuntime,
+    rt: &impl Print,
     text: &[u8],
     memory: &mut [u16; 65792],
     reply: &mut [u16; 64],
     b: Bench,
-    name: u64,
+    verb: Verb,
     n: Numbers,
-    number: u16,
 ) -> Bench {
-    match name {
-        0 => {}
-        names::HEADING => {
-            tell(rt, text);
-            tell(rt, b"\n");
+    match verb {
+        Verb::Blank => b,
+        Verb::Put => {
+            put(memory, usize::from(n.a), n.b);
+            b
         }
-        names::PUT => put(memory, n.a as usize, n.b),
-        names::FILL => ram::fill(memory, n.a, n.b, n.c, n.d),
-        names::CLEAR => return bench::cleared(memory, reply),
-        names::SET | names::LEND | names::FROM | names::RECORD | names::WORD => {
-            return bench::built(b, name, n);
+        Verb::Fill => {
+            ram::fill(memory, n.a, n.b, n.c, n.d);
+            b
         }
-        names::AGAIN => return bench::after(b, messages::served(memory, reply, b, n.a)),
-        _ => return answered(rt, text, memory, reply, b, name, n, number),
+        Verb::Clear => bench::cleared(memory, reply),
+        Verb::Set | Verb::Lend | Verb::From | Verb::Record | Verb::Word => b.built(verb, n),
+        Verb::Again => b.after(messages::served(memory, reply, b, n.a)),
+        _ => {
+            tell_bytes(rt, text);
+            tell(rt, ":");
+            answered(rt, memory, reply, b, verb, n)
+        }
     }
-    b
 }
 
-pub(crate) fn run(rt: &HostRuntime, text: &[u8], memory: &mut [u16; 65792], reply: &mut [u16; 64]) {
+pub(crate) fn run(rt: &impl Print, text: &[u8], memory: &mut [u16; 65792], reply: &mut [u16; 64]) {
     let mut b = bench::cleared(memory, reply);
-    let mut at: usize = 0;
     let mut number: u16 = 0;
-    while at < text.len() {
+    for text in text.split(|byte| *byte == b'\n') {
         number = number % 65535 + 1;
-        let line = read_line(text, at);
-        let end = line.end;
-        b = done(
-            rt,
-            &text[at..end],
-            memory,
-            reply,
-            b,
-            line.name,
-            numbers_of(line),
-            number,
-        );
-        at = line.next;
+        match Line::read(text) {
+            Line::Heading => {
+                tell_bytes(rt, text);
+                tell(rt, "\n");
+            }
+            Line::Case(verb, n) => b = done(rt, text, memory, reply, b, verb, n),
+            Line::NotUnderstood => {
+                tell_bytes(rt, text);
+                tell(rt, format_args!(": line {number} is not understood\n"));
+            }
+        }
     }
 }

@@ -7,7 +7,7 @@
 ghost use Rattle.std.specs.Prelude.{◌≤◌, length};
 
 use label_text::printed::put_area_text;
-use streams::input::fill;
+use streams::input::{Filled, fill};
 use streams::output::print;
 use trace_ends::image::{load_image, put_image_line};
 use words::settings::program_settings;
@@ -34,11 +34,11 @@ fn print_all(rt: &HostRuntime, out: &[u8], used: usize)
 fn label(rt: &HostRuntime, ram: &mut [u16], out: &mut [u8], image: &mut [u8])
     requires { 350000 ≤ length out.old }
 {
-    let filled = fill(rt, image);
-    if filled.failed {
+    let Filled { got, failed } = fill(rt, image);
+    if failed {
         return;
     }
-    let used = put_text(ram, out, image, filled.got);
+    let used = put_text(ram, out, image, got);
     print_all(rt, out, used);
 }
 

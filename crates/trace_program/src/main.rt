@@ -7,7 +7,7 @@
 
 ghost use Rattle.std.specs.Prelude.{◌≤◌, length};
 
-use streams::input::fill;
+use streams::input::{Filled, fill};
 use streams::output::print;
 use trace::walk::walk;
 use trace_ends::image::{load_image, put_image_line};
@@ -46,46 +46,43 @@ fn refill(
 ) -> Standing
     requires { length buffer.old ≤ length out.old }
 {
-    let filled = fill(rt, buffer);
-    let got = filled.got;
-    let before = at.remembered;
+    let Filled { got, failed } = fill(rt, buffer);
     let w = walk(
         ram,
         reply,
         out,
         program_settings(),
-        before,
+        at.remembered,
         at.number,
         &buffer[..got],
     );
     let written = print_all(rt, out, w.used, at.well);
-    let remembered = w.remembered;
     Standing {
-        remembered,
+        remembered: w.remembered,
         number: w.number,
         left: got % RECORD_BYTES,
-        well: written && !filled.failed,
+        well: written && !failed,
         more: written && got == buffer.len(),
     }
 }
 
-// A proved loop has to end, and nothing says that an input does. So it counts down from a number that no run uses up.
+// A proved loop has to end, and nothing says that an input does. So it counts to a number that no run uses up.
 // No end line follows where reading or writing failed.
 fn run(rt: &HostRuntime, ram: &mut [u16], reply: &mut [u16], buffer: &mut [u8], out: &mut [u8])
     requires { (length buffer.old ≤ length out.old) × (100 ≤ length out.old) }
 {
-    let remembered = nothing_remembered();
     let mut at = Standing {
-        remembered,
+        remembered: nothing_remembered(),
         number: 0,
         left: 0,
         well: true,
         more: true,
     };
-    let mut turns = u64::MAX;
-    while turns > 0 && at.more {
+    for _ in 0..u64::MAX {
+        if !at.more {
+            break;
+        }
         at = refill(rt, ram, reply, buffer, out, at);
-        turns -= 1;
     }
     if at.well {
         let used = put_last_lines(out, at.left, at.number);
@@ -104,11 +101,10 @@ fn image_and_trace(
 )
     requires { (length buffer.old ≤ length out.old) × (100 ≤ length out.old) }
 {
-    let filled = fill(rt, image);
-    if filled.failed {
+    let Filled { got, failed } = fill(rt, image);
+    if failed {
         return;
     }
-    let got = filled.got;
     if got < image.len() {
         let used = put_image_line(out, got);
         print_all(rt, out, used, true);

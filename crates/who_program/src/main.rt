@@ -7,7 +7,7 @@
 
 #![tactic(auto)]
 
-use streams::input::fill;
+use streams::input::{Filled, fill};
 use streams::output::print;
 use trace_ends::image::{load_image, put_image_line};
 use who::standing::{Standing, begin};
@@ -32,35 +32,31 @@ fn refill(
     address: u16,
     w: Replayed,
 ) -> Replayed {
-    let before = w.at;
-    let filled = fill(rt, buffer);
-    let got = filled.got;
-    let at = go_on(ram, program_settings(), address, before, &buffer[..got]);
+    let Filled { got, failed } = fill(rt, buffer);
+    let at = go_on(ram, program_settings(), address, w.at, &buffer[..got]);
     Replayed {
         at,
-        well: !filled.failed,
+        well: !failed,
         more: got == buffer.len(),
     }
 }
 
-// A proved loop has to end, and nothing says that an input does. So it counts down from a number that no run uses up.
+// A proved loop has to end, and nothing says that an input does. So it counts to a number that no run uses up.
 // Nothing is printed where reading failed.
 fn replay(rt: &HostRuntime, ram: &mut [u16], buffer: &mut [u8], out: &mut [u8], address: u16) {
-    let at = begin();
     let mut w = Replayed {
-        at,
+        at: begin(),
         well: true,
         more: true,
     };
-    let mut turns = u64::MAX;
-    while turns > 0 && w.more {
+    for _ in 0..u64::MAX {
+        if !w.more {
+            break;
+        }
         w = refill(rt, ram, buffer, address, w);
-        turns -= 1;
     }
     if w.well {
-        let end = w.at;
-        let who = end.who;
-        let used = put_who_line(out, 0, address, who);
+        let used = put_who_line(out, 0, address, w.at.who);
         print(rt, out, used, true);
     }
 }
@@ -74,11 +70,10 @@ fn image_and_trace(
     out: &mut [u8],
     address: u16,
 ) {
-    let filled = fill(rt, image);
-    if filled.failed {
+    let Filled { got, failed } = fill(rt, image);
+    if failed {
         return;
     }
-    let got = filled.got;
     if got < image.len() {
         let used = put_image_line(out, got);
         print(rt, out, used, true);
