@@ -6,4 +6,4 @@ use Rattle.trace_program.proofs.image_and_trace.Goals as goal
 pub print_all-requires : goal.print_all-requires
 print_all-requires c =
     let line = c.put_image_line-used in
-    omega (arith, line.ensures.length, line.auto.out, c.requires, image_most c.fill-filled.result.got)
+    omega (arith, line.ensures.length, line.auto.out, c.requires, image_most c.fill-got.result.got)

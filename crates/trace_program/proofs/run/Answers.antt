@@ -10,7 +10,7 @@ print_all-requires c =
       arith,
       lines.ensures.length,
       lines.auto.out,
-      c.loop-turns.invariant,
+      c.loop.invariant,
       c.requires,
-      last_most c.loop-turns.at.left c.loop-turns.at.number,
+      last_most c.loop.at.left c.loop.at.number,
     )

@@ -2,12 +2,9 @@
 use Rattle.std.proofs.Common.{length, ◌≡◌}
 use Rattle.trace_program.proofs.run.Given as goal
 
-abbrev pub invariant-loop-turns : goal.invariant-loop-turns
-invariant-loop-turns l =
+abbrev pub invariant-loop : goal.invariant-loop
+invariant-loop l =
     (length l.ram ≡ length l.fn.ram)
     × (length l.reply ≡ length l.fn.reply)
     × (length l.buffer ≡ length l.fn.buffer)
     × (length l.out ≡ length l.fn.out)
-
-abbrev pub decreases-loop-turns : goal.decreases-loop-turns
-decreases-loop-turns l = l.turns
