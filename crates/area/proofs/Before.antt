@@ -1,7 +1,7 @@
 -- The whole-area check in two steps: 1, 3 and 8 first, and 9 only where none of them is answered.
-use Prim.Native.Nat.{ℕ, ◌≤◌}
+use Prim.Native.Nat.{ℕ, ◌≤◌, ◌<◌}
 use native.Mathlib.Omega.{arith}
-use mathlib.Core.Path.{◌≡◌, refl}
+use mathlib.Core.Path.{◌≡◌, refl, sym, ◌∙◌}
 use mathlib.Core.Logic.{⊎_elim}
 use mathlib.Core.Bool.{true, false, not, cond}
 use mathlib.Core.List.{List, [], ◌∷◌}
@@ -73,3 +73,17 @@ module _ (ram : List ℕ) (s : Settings) where
       (λ (e : eqb (lowest_unsound ram s) 0 ≡ true). rw (e, eqb-true (lowest_unsound ram s) 0 e))
       (λ (e : eqb (lowest_unsound ram s) 0 ≡ false). rw e)
       (yes_or_no (eqb (lowest_unsound ram s) 0)))
+
+-- as the code asks
+module _ (ram : List ℕ) (s : Settings) (n : ℕ) (e : n ≡ ground_refusal ram s) where
+  pub told_before : (n ≡ 0 → ⊥) → record { number = n; cell = 0 } ≡ check_area ram s
+  told_before h = rw e (before_refused ram s (λ z. h (e ∙ z)))
+
+  pub told_fine : n ≡ 0 → lowest_unsound ram s ≡ 0 → record { number = 0; cell = 0 } ≡ check_area ram s
+  told_fine z l = rw l at (before_none ram s (sym e ∙ z))
+
+  pub told_unsound :
+      (cell : ℕ) → n ≡ 0 → (0 < cell) × (lowest_unsound ram s ≡ cell) → record { number = 9; cell = cell } ≡ check_area ram s
+  told_unsound cell z f =
+      let some : lowest_unsound ram s ≡ 0 → ⊥ = λ w. omega arith in
+      rw (← f.1) (rw (ne_eqb (lowest_unsound ram s) 0 some) at (before_none ram s (sym e ∙ z)))

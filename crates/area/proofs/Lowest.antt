@@ -4,10 +4,11 @@ use native.Mathlib.Nat.{add-zero, add-suc}
 use native.Mathlib.Omega.{arith}
 use mathlib.Core.Path.{◌≡◌, refl, ◌∙◌}
 use mathlib.Core.Logic.{⊎_elim}
-use mathlib.Core.Bool.{Bool, true, false, cond}
+use mathlib.Core.Bool.{Bool, true, false, cond, not}
 use lib.Dec.{eqb}
 use borrow.Author.Tests.{eqb-true, eqb-false, ne_eqb}
 use Rattle.words.proofs.Basics.{yes_or_no, lt_or_ge}
+use Rattle.memory.proofs.Numbers.{number_below}
 use Rattle.area.specs.Area.{or_else, lowest}
 use Rattle.area.proofs.Turns.{lowest_more}
 
@@ -118,3 +119,15 @@ module _ (bad : ℕ → Bool) where
       let d = n - (i + 1) in
       let e : n ≡ i + 1 + d = omega arith in
       rw e (lowest_stays (i + 1) d (λ z. omega arith) ∙ f)
+
+  -- where the search ends
+  pub found_here :
+      (n i : ℕ) (good : Bool) → 0 < i → i < n → lowest bad i ≡ 0 → good ≡ false → bad i ≡ not good →
+      (0 < lowest bad n) × (i ≡ lowest bad n)
+  found_here n i good p l e g b =
+      let found = lowest_found n i p l e (rw g at b) in
+      (omega arith, omega arith)
+
+-- ---- what a search for the first uses
+
+pub ruleset search_turns = (lowest_start, lowest_on, number_below)

@@ -4,16 +4,14 @@ ghost use Rattle.area.specs.Area.{is_read, read_end, cell_numbered};
 
 use cells::cell::{Cell, cell_at};
 use memory::kind::kind_numbered;
-use words::choose::{both, either};
 use words::settings::{Settings, has_broadcast_cells};
 
+#[tactic(auto, unfolding(crate::specs::Area::is_read))]
 pub fn is_read(s: Settings, number: u16) -> bool
     ensures { result ≡ is_read s number }
 {
     let sub = number % 32;
-    let named = both(1 <= sub, sub <= 30);
-    let broadcast = both(has_broadcast_cells(s), number < 96);
-    both(named, either(number < 64, broadcast))
+    (1 <= sub && sub <= 30) && (number < 64 || (has_broadcast_cells(s) && number < 96))
 }
 
 // No cell from this number on is read.
@@ -23,9 +21,9 @@ pub fn read_end(s: Settings) -> u16
     if has_broadcast_cells(s) { 96 } else { 64 }
 }
 
+#[tactic(auto, unfolding(crate::specs::Area::cell_numbered))]
 pub fn cell_numbered(ram: &[u16], s: Settings, number: u16) -> Cell
     ensures { result ≡ cell_numbered ram.now s number }
 {
-    let area = s.area;
-    cell_at(ram, area, kind_numbered(number), number % 32)
+    cell_at(ram, s.area, kind_numbered(number), number % 32)
 }

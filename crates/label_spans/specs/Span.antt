@@ -1,5 +1,5 @@
 -- A cell's window as two addresses, read once for each cell, so that two cells are compared without asking RAM again.
-use Rattle.std.specs.Prelude.{ℕ, ◌+◌, Bool, cond, ◌&&◌, List, length, get_or, ltb, eqb}
+use Rattle.std.specs.Prelude.{ℕ, ◌+◌, Bool, cond, ◌&&◌, List, map, length, get_or, ltb, eqb}
 use Rattle.words.specs.declared.settings.Settings.{Settings}
 use Rattle.windows.specs.declared.window.Window.{Window}
 use Rattle.words.specs.Fill.{fill}
@@ -29,6 +29,13 @@ unfoldable pub span_of : List ℕ → Settings → Window → ℕ → Span
 span_of ram s stack number =
     cond (read_and_sound ram s stack number) (span_of_window (window_numbered ram s number)) no_span
 
+-- where the spans of a list begin, and where they end
+abbrev pub starts_of : List Span → List ℕ
+starts_of spans = map (λ v. v.start) spans
+
+abbrev pub ends_of : List Span → List ℕ
+ends_of spans = map (λ v. v.end) spans
+
 -- the spans of all cells, each at its number: where they begin, and where they end
 abbrev pub starts_into : List ℕ → Settings → List ℕ → List ℕ
 starts_into ram s places = fill (λ number. (span_of ram s (stack_window ram s) number).start) places 96
@@ -39,13 +46,13 @@ ends_into ram s places = fill (λ number. (span_of ram s (stack_window ram s) nu
 unfoldable pub spans_meet : Span → Span → Bool
 spans_meet v w = ltb v.start w.end && ltb w.start v.end
 
--- the span at a place of two lists of starts and ends
-abbrev pub span_at : List ℕ → List ℕ → ℕ → Span
-span_at starts ends number = record { start = get_or starts number 0; end = get_or ends number 0 }
+-- the span at a place of a list
+abbrev pub span_at : List Span → ℕ → Span
+span_at spans number = get_or spans number no_span
 
-unfoldable pub places_meet : List ℕ → List ℕ → ℕ → ℕ → Bool
-places_meet starts ends cell other = spans_meet (span_at starts ends cell) (span_at starts ends other)
+unfoldable pub places_meet : List Span → ℕ → ℕ → Bool
+places_meet spans cell other = spans_meet (span_at spans cell) (span_at spans other)
 
 -- read, and there is no address in its window: a cell that is unsound
-unfoldable pub read_in_vain : Settings → List ℕ → ℕ → Bool
-read_in_vain s ends number = is_read s number && eqb (get_or ends number 0) 0
+unfoldable pub read_in_vain : Settings → List Span → ℕ → Bool
+read_in_vain s spans number = is_read s number && eqb (span_at spans number).end 0

@@ -13,7 +13,7 @@ use words::settings::Settings;
 
 // The number that refuses, or 0; then what the cell is: whether the whole-area check reads it, its scheme (1 single,
 // 2 double, 3 circular), its pointer, where its window starts and how many words it has, and its faults.
-#[derive(Clone, Copy)]
+#[derive(Clone, Copy, Debug, Default, PartialEq, Eq)]
 pub struct CellDescription {
     pub number: u16,
     pub kind: u16,
@@ -26,6 +26,7 @@ pub struct CellDescription {
     pub faults: u16,
 }
 
+// A function, since only the crate of `Scheme` may say how one is turned into a `u16`.
 pub fn scheme_number(scheme: Scheme) -> u16
     ensures { result ≡ scheme_number scheme }
 {
@@ -36,45 +37,36 @@ pub fn scheme_number(scheme: Scheme) -> u16
     }
 }
 
+// The number, the rest zero.
+#[tactic(auto, unfolding(crate::specs::Described::no_cell))]
 fn no_cell(number: u16) -> CellDescription
     ensures { result ≡ no_cell number }
 {
     CellDescription {
         number,
-        kind: 0,
-        subaddress: 0,
-        read: false,
-        scheme: 0,
-        pointer: 0,
-        start: 0,
-        size: 0,
-        faults: 0,
+        ..CellDescription::default()
     }
 }
 
+#[tactic(auto, unfolding(crate::specs::Described::described_cell))]
 fn described_cell(ram: &[u16], s: Settings, number: u16, c: Cell) -> CellDescription
     ensures { result ≡ described_cell ram.now s number c }
 {
-    let kind = c.kind;
-    let scheme = c.scheme;
-    let w = window_of(scheme, c.pointer);
-    let stack = stack_window(ram, s);
-    let faults = cell_faults(ram.len(), stack, c);
-    let read = is_read(s, number);
-    let scheme_told = scheme_number(scheme);
+    let w = window_of(c.scheme, c.pointer);
     CellDescription {
         number: 0,
-        kind: kind_number(kind),
+        kind: kind_number(c.kind),
         subaddress: c.subaddress,
-        read,
-        scheme: scheme_told,
+        read: is_read(s, number),
+        scheme: scheme_number(c.scheme),
         pointer: c.pointer,
         start: w.start,
         size: w.size,
-        faults,
+        faults: cell_faults(ram.len(), stack_window(ram, s), c),
     }
 }
 
+#[tactic(auto, unfolding(crate::specs::Described::cell_description))]
 pub fn describe_cell(ram: &[u16], s: Settings, number: u16) -> CellDescription
     ensures { result ≡ cell_description ram.now s number }
 {
@@ -82,6 +74,5 @@ pub fn describe_cell(ram: &[u16], s: Settings, number: u16) -> CellDescription
     if refused != 0 {
         return no_cell(refused);
     }
-    let c = cell_numbered(ram, s, number);
-    described_cell(ram, s, number, c)
+    described_cell(ram, s, number, cell_numbered(ram, s, number))
 }

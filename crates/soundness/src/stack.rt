@@ -9,7 +9,7 @@ use words::settings::Settings;
 
 // The number that refuses, or 0; then the stack pointer, where its block starts and how many words it has, and its
 // faults.
-#[derive(Clone, Copy)]
+#[derive(Clone, Copy, Debug, Default, PartialEq, Eq)]
 pub struct StackDescription {
     pub number: u16,
     pub pointer: u16,
@@ -18,33 +18,32 @@ pub struct StackDescription {
     pub faults: u16,
 }
 
+// The number, the rest zero.
+#[tactic(auto, unfolding(crate::specs::Described::no_stack))]
 fn no_stack(number: u16) -> StackDescription
     ensures { result ≡ no_stack number }
 {
     StackDescription {
         number,
-        pointer: 0,
-        start: 0,
-        size: 0,
-        faults: 0,
+        ..StackDescription::default()
     }
 }
 
+#[tactic(auto, unfolding(crate::specs::Described::described_stack))]
 fn described_stack(ram: &[u16], s: Settings) -> StackDescription
     ensures { result ≡ described_stack ram.now s }
 {
-    let pointer = stack_pointer(ram, s);
     let w = stack_window(ram, s);
-    let faults = stack_faults(ram, s);
     StackDescription {
         number: 0,
-        pointer,
+        pointer: stack_pointer(ram, s),
         start: w.start,
         size: w.size,
-        faults,
+        faults: stack_faults(ram, s),
     }
 }
 
+#[tactic(auto, unfolding(crate::specs::Described::stack_description))]
 pub fn describe_stack(ram: &[u16], s: Settings) -> StackDescription
     ensures { result ≡ stack_description ram.now s }
 {
