@@ -2,6 +2,7 @@
 ghost use Rattle.std.specs.Prelude.{◌≡◌};
 ghost use Rattle.plan.specs.Entry.{entry_in};
 
+use crate::motion::pointer_to;
 use windows::window::{Window, place, rolls_over};
 
 // Where the descriptor goes, where the stack pointer stands then, and whether it went round.
@@ -18,7 +19,7 @@ pub(crate) fn entry_in(pointer: u16, block: Window) -> Entry
 {
     Entry {
         pointer,
-        after: (place(block, 4) % 65536) as u16,
+        after: pointer_to(place(block, 4)),
         wrapped: rolls_over(block, 4),
     }
 }
