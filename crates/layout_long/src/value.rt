@@ -14,12 +14,12 @@ pub struct LongRecord {
     pub member: u16,
 }
 
+#[tactic(auto, unfolding(crate::specs::Long::zero_long))]
 pub fn zero_long() -> LongRecord
     ensures { result ≡ zero_long }
 {
-    let old = zero_value();
     LongRecord {
-        old,
+        old: zero_value(),
         upper: 0,
         member: 0,
     }
