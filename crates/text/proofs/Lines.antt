@@ -24,12 +24,12 @@ pub length_three : (x y z : ℕ) → length (three_words x y z) ≡ 15
 unfolding three_words
 length_three x y z = simp (length-append, length_hex) (omega arith)
 
-length_nothing : length (decimal_text 0) ≡ 1
+pub length_nothing : length (decimal_text 0) ≡ 1
 unfolding decimal_text digits places_up_to
 length_nothing = refl
 
 -- an accepted record's number is 0, one digit
-accepted_most : (a : Answer) → a.number ≡ 0 → length (accepted_columns a) ≤ 50
+pub accepted_most : (a : Answer) → a.number ≡ 0 → length (accepted_columns a) ≤ 50
 unfolding accepted_columns
 accepted_most a e =
     let n : length (decimal_text a.number) ≡ 1 = rw (e, length_nothing) in
