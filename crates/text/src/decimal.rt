@@ -1,5 +1,5 @@
-// Decimal numbers, two digits at a time.
-ghost use Rattle.std.specs.Prelude.{◌+◌, ◌≤◌, ◌<◌, length};
+// Decimal numbers, four digits at a time.
+ghost use Rattle.std.specs.Prelude.{◌≡◌, ◌+◌, ◌≤◌, ◌<◌, length};
 ghost use Rattle.text.specs.Text.{Adds, digits, decimal_text};
 
 use crate::text::Text;
@@ -7,15 +7,37 @@ use crate::text::Text;
 // A number has at most so many digits.
 const MOST_DIGITS: usize = 20;
 
+// The last four digits of n.
+#[inline(always)]
+#[tactic(auto, unfolding(crate::specs::Text::digits))]
+fn last_four(n: u16) -> [u8; 4]
+    ensures { result ≡ digits 4 n }
+{
+    [
+        b'0' + (n / 10 / 10 / 10 % 10) as u8,
+        b'0' + (n / 10 / 10 % 10) as u8,
+        b'0' + (n / 10 % 10) as u8,
+        b'0' + (n % 10) as u8,
+    ]
+}
+
 impl Text<'_> {
-    // The last two digits of n.
-    #[inline]
-    fn write_pair(&mut self, n: u16)
-        requires { self.old.at + 2 ≤ length self.old.out.now }
-        ensures { Adds self.old (digits 2 n) self.new }
+    // A number of up to four digits, that there is room for.
+    fn write_short(&mut self, n: u16)
+        requires few { n < 10000 }
+        requires room { self.old.at + length (decimal_text n) ≤ length self.old.out.now }
+        ensures { Adds self.old (decimal_text n) self.new }
     {
-        self.write_byte(b'0' + (n / 10 % 10) as u8);
-        self.write_byte(b'0' + (n % 10) as u8);
+        let digits = last_four(n);
+        if n < 10 {
+            self.write(&digits[3..]);
+        } else if n < 100 {
+            self.write(&digits[2..]);
+        } else if n < 1000 {
+            self.write(&digits[1..]);
+        } else {
+            self.write(&digits);
+        }
     }
 
     // A number that there is room for.
@@ -23,13 +45,11 @@ impl Text<'_> {
         requires { self.old.at + length (decimal_text n) ≤ length self.old.out.now }
         ensures { Adds self.old (decimal_text n) self.new }
     {
-        if n < 10 {
-            self.write_byte(b'0' + n as u8);
-        } else if n < 100 {
-            self.write_pair(n as u16);
+        if n < 10000 {
+            self.write_short(n as u16);
         } else {
-            self.write_decimal(n / 100);
-            self.write_pair((n % 100) as u16);
+            self.write_decimal(n / 10000);
+            self.write(&last_four((n % 10000) as u16));
         }
     }
 

@@ -6,6 +6,7 @@ ghost use Rattle.text.specs.Table.{hex_table};
 use crate::text::hex_digit;
 
 // The digits of byte b stand at places 2b and 2b + 1.
+#[derive(Drop)]
 pub struct HexTable {
     digits: [u8; 512],
     ghost worked_out: { digits ≡ hex_table },
@@ -24,7 +25,7 @@ impl HexTable {
     }
 
     // The two digits of a byte.
-    #[inline]
+    #[inline(always)]
     pub(crate) fn pair(&self, b: u8) -> (u8, u8)
         ensures first { result.0 ≡ hex_digit (b / 16) }
         ensures second { result.1 ≡ hex_digit (b % 16) }

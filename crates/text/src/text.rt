@@ -22,14 +22,16 @@ impl Text<'_> {
         self.at = self.at.saturating_add(1);
     }
 
-    // A byte that there is room for.
-    #[inline]
-    pub(crate) fn write_byte(&mut self, b: u8)
-        requires { self.old.at < length self.old.out.now }
-        ensures { Adds self.old (b ∷ []) self.new }
+    // Bytes that there is room for.
+    #[inline(always)]
+    pub(crate) fn write(&mut self, s: &[u8])
+        requires { self.old.at + length s.now ≤ length self.old.out.now }
+        ensures { Adds self.old s.now self.new }
     {
-        self.out[self.at] = b;
-        self.at += 1;
+        let end = self.at + s.len();
+        let out = &mut *self.out;
+        out[self.at..end].copy_from_slice(s);
+        self.at = end;
     }
 
     // Whether n bytes from the place on lie in the buffer.
