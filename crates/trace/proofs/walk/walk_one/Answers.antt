@@ -1,6 +1,8 @@
 -- `walk_one` meets its contract.
+use borrow.Author.Rules.{rules}
+use mathlib.Core.Path.{refl}
 use Rattle.text.specs.Line.{line_of}
-use Rattle.text.proofs.Runs.{put_then}
+use Rattle.text.proofs.Added.{adds_then, adds_lent}
 use Rattle.trace.specs.Walk.{walk_record}
 use Rattle.trace.proofs.walk.walk_one.Goals as goal
 
@@ -9,5 +11,6 @@ unfolding walk_record line_of
 returns c =
     let n = c.wrapping_add_u64-number.ensures.value in
     let m = c.message_from_bytes-outcome.ensures in
-    let p = put_then c.put_decimal-place.ensures c.put_columns-used.ensures in
-    record { state = m.state; line = rw (n, m.answer) at p; number = n }
+    let a = adds_then c.put_decimal.ensures c.put_columns.ensures in
+    let p = rw (n, m.answer) at a in
+    record { state = m.state; line = adds_lent p (search rules) (search rules); number = n }
