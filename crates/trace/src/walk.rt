@@ -5,7 +5,6 @@ ghost use Rattle.text.specs.Table.{hex_table};
 ghost use Rattle.trace.specs.Walk.{Leaves, walk_start, walk_record, walk_all, walked_of};
 
 use message::serve::message_from_bytes;
-use std::num::wrapping_add_u64;
 use text::line::put_columns;
 use text::table::hex_table;
 use text::text::put_decimal;
@@ -34,17 +33,13 @@ fn walk_one(
     requires { table.now ≡ hex_table }
     ensures { Leaves (walk_record s bytes.now (walk_start ram.old reply.old w.remembered w.number)) out.old w.used ram.new reply.new out.new result }
 {
-    let before = w.remembered;
-    let number = wrapping_add_u64(w.number, 1);
+    let number = w.number.wrapping_add(1);
     let place = put_decimal(out, w.used, number);
-    let outcome = message_from_bytes(ram, reply, s, before, bytes);
-    let answer = outcome.answer;
-    let remembered = outcome.remembered;
-    let used = put_columns(out, place, answer, table);
+    let outcome = message_from_bytes(ram, reply, s, w.remembered, bytes);
     Walked {
-        remembered,
+        remembered: outcome.remembered,
         number,
-        used,
+        used: put_columns(out, place, outcome.answer, table),
     }
 }
 
@@ -66,17 +61,13 @@ fn walk_records(
     ensures reply { reply.new ≡ (walk_all s trace.now (walk_start ram.old reply.old before number)).state.reply }
     ensures out { out.new ≡ sets out.old 0 (walk_all s trace.now (walk_start ram.old reply.old before number)).text }
 {
-    let records = trace.len() / RECORD_BYTES;
     let mut w = Walked {
         remembered: before,
         number,
         used: 0,
     };
-    let mut i: usize = 0;
-    while i < records {
-        let at = RECORD_BYTES * i;
-        w = walk_one(ram, reply, out, s, w, &trace[at..at + RECORD_BYTES], table);
-        i += 1;
+    for bytes in trace.chunks_exact(RECORD_BYTES) {
+        w = walk_one(ram, reply, out, s, w, bytes, table);
     }
     w
 }
