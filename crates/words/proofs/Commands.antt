@@ -7,7 +7,8 @@ use mathlib.Core.Bool.{false}
 use lib.Dec.{eqb}
 use borrow.Author.Tests.{eq-eqb, ne_eqb, eqb-false}
 use Rattle.words.specs.Command.{address_of, subaddress_of, count_field, word_count, is_mode_subaddress}
-use Rattle.words.proofs.Basics.{eq_or_ne, or_left, or_right}
+use Rattle.std.proofs.lemmas.Bool.{cases_eq}
+use Rattle.words.proofs.Basics.{or_left, or_right}
 
 pub address_small : (command : ℕ) → command < 65536 → address_of command < 32
 address_small command h = omega arith
@@ -32,14 +33,14 @@ word_count_from command =
     ⊎_elim
     (λ z. omega (arith, word_count_zero command z))
     (λ n. omega (arith, word_count_other command n))
-    (eq_or_ne (count_field command) 0)
+    (cases_eq (count_field command) 0)
 
 pub word_count_to : (command : ℕ) → word_count command ≤ 32
 word_count_to command =
     ⊎_elim
     (λ z. omega (arith, word_count_zero command z))
     (λ n. omega (arith, word_count_other command n))
-    (eq_or_ne (count_field command) 0)
+    (cases_eq (count_field command) 0)
 
 -- "data messages at subaddresses 1 to 30"
 pub record Data (command : ℕ) : Type 0 where

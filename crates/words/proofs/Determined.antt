@@ -5,6 +5,7 @@ use Rattle.words.proofs.Settled.{determined, Settled}
 use Rattle.words.proofs.choose
 use Rattle.words.proofs.command
 use Rattle.words.proofs.bits
+use Rattle.words.proofs.refusal
 use Rattle.words.proofs.remembered
 use Rattle.words.proofs.settings
 
@@ -70,3 +71,9 @@ word_of_settled κs a x y v w p q = (determined p q, refl)
 
 pub program_settings_settled : Settled 0 settings.program_settings.Kinds.ps settings.program_settings.Kinds.r settings.program_settings.Reads.Post
 program_settings_settled κs a x y v w p q = (determined p q, refl)
+
+pub number_settled : Settled 0 refusal.Refusal.number.Kinds.ps refusal.Refusal.number.Kinds.r refusal.Refusal.number.Reads.Post
+number_settled κs a x y v w p q = (determined p q, refl)
+
+pub number_from_settled : Settled 0 refusal.U16FromRefusal.from.Kinds.ps refusal.U16FromRefusal.from.Kinds.r refusal.U16FromRefusal.from.Reads.Post
+number_from_settled κs a x y v w p q = (determined p q, refl)

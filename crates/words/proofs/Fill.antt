@@ -8,7 +8,7 @@ use mathlib.Core.Logic.{⊎_elim}
 use mathlib.Core.List.{List}
 use lib.ListN.{length, get_or, set, length-set}
 use lib.Seq.{get_or-set_same, get_or-set_other}
-use Rattle.words.proofs.Basics.{eq_or_ne}
+use Rattle.std.proofs.lemmas.Bool.{cases_eq}
 use Rattle.words.specs.Fill.{fill_from, fill}
 
 pub fill_from_more :
@@ -36,7 +36,7 @@ module _ (f : ℕ → ℕ) (xs : List ℕ) where
       let p : n < length (fill f xs n) = omega (arith, length_fill 0 f xs n) in
       rw e (get_or-set_same (fill f xs n) n (f n) 0 p))
       (λ ne. get_or-set_other (fill f xs n) n k (f n) 0 ne ∙ fill_at n k (omega arith) (omega arith))
-      (eq_or_ne k n))
+      (cases_eq k n))
 
   -- a place that is not yet filled in
   pub fill_later : (n k : ℕ) → n ≤ k → get_or (fill f xs n) k 0 ≡ get_or xs k 0

@@ -1,6 +1,7 @@
 pub mod Basics
 pub mod BitLaws
 pub mod Refusals
+pub mod Refused
 pub mod Commands
 pub mod SettingsLaws
 pub mod Fill

@@ -8,7 +8,8 @@ use mathlib.Core.Bool.{Bool, true, false, cond, ◌&&◌}
 use mathlib.Core.List.{List, [], ◌∷◌, ◌++◌}
 use lib.Dec.{ltb, leb, eqb}
 use borrow.Author.Tests.{ltb-true, leb-true, eq-eqb, ne_eqb}
-use Rattle.words.proofs.Basics.{yes_or_no, and_left, and_right}
+use Rattle.std.proofs.lemmas.Bool.{cases_Bool}
+use Rattle.words.proofs.Basics.{and_left, and_right}
 use Rattle.words.specs.Refusal.{Test, ◌when◌, first_of, NoneHolds, First}
 
 -- ---- any list of tests
@@ -36,12 +37,12 @@ none_holds (t ∷ ts) m e =
     ⊎_elim
     (λ it. absurd (not_zero t ts m (rw it at e)))
     (λ fails. (fails, none_holds ts (rest_numbered t ts m) (rw fails at e)))
-    (yes_or_no t.holds)
+    (cases_Bool t.holds)
 
 none_held : (ts : List Test) → NoneHolds ts → (n : ℕ) → held n ts ≡ false
 none_held [] h n = refl
 none_held (t ∷ ts) h n =
-    ⊎_elim (λ it. rw it h.0) (λ other. rw other (none_held ts h.1 n)) (yes_or_no (eqb n t.number))
+    ⊎_elim (λ it. rw it h.0) (λ other. rw other (none_held ts h.1 n)) (cases_Bool (eqb n t.number))
 
 -- where nothing refuses, the test of each number does not hold
 pub accepted : (ts : List Test) → numbered ts ≡ true → first_of ts ≡ 0 → (n : ℕ) → held n ts ≡ false
@@ -69,7 +70,7 @@ first_of_lem (t ∷ ts) n m e =
     let same : t.number ≡ n = rw held at e in
     record { before = []; after = ts; splits = λ i. record { number = same i; holds = held i } ∷ ts; none = tt })
     (λ fails. one_more t ts n fails (first_of_lem ts n m (rw fails at e)))
-    (yes_or_no t.holds)
+    (cases_Bool t.holds)
 
 after_none : (before after : List Test) (n : ℕ) → NoneHolds before → first_of (before ++ (record { number = n; holds = true } ∷ after)) ≡ n
 unfolding first_of
@@ -116,7 +117,7 @@ unfolding first_of
 first_at_most n [] h = omega arith
 first_at_most n (t ∷ ts) h =
     ⊎_elim (λ it. rw it (leb-true t.number n (and_left (leb t.number n) (at_most n ts) h)))
-    (λ fails. rw fails (first_at_most n ts (and_right (leb t.number n) (at_most n ts) h))) (yes_or_no t.holds)
+    (λ fails. rw fails (first_at_most n ts (and_right (leb t.number n) (at_most n ts) h))) (cases_Bool t.holds)
 
 -- a last test that does not hold plays no part
 pub last_no : (ts : List Test) (n : ℕ) → first_of (ts ++ (n when false ∷ [])) ≡ first_of ts

@@ -9,7 +9,8 @@ use borrow.Author.Tests.{ltb-false, eqb-true, ne_eqb, not-false}
 use Rattle.words.specs.declared.settings.Settings.{Settings}
 use Rattle.words.specs.Command.{address_of}
 use Rattle.words.specs.Settings.{stack_size_listed, highest_address, settings_refused, is_own, is_broadcast, is_not_ours, has_broadcast_cells}
-use Rattle.words.proofs.Basics.{yes_or_no, or_either, or_left, or_right}
+use Rattle.std.proofs.lemmas.Bool.{cases_Bool}
+use Rattle.words.proofs.Basics.{or_either, or_left, or_right}
 
 abbrev pub ListedSize : ℕ → Type 0
 ListedSize n = ((n ≡ 256) ⊎ (n ≡ 512)) ⊎ ((n ≡ 1024) ⊎ (n ≡ 2048))
@@ -53,7 +54,7 @@ ours s command e =
     ⊎_elim
     (λ own. inl own)
     (λ other. inr (not-false (is_broadcast s command) (rw other at e)))
-    (yes_or_no (is_own s command))
+    (cases_Bool (is_own s command))
 
 -- and never both
 pub own_or_broadcast :
@@ -66,7 +67,7 @@ own_or_broadcast s command e own =
     let a = (settings_agreed s e).low on in
     rw (on, ne_eqb (address_of command) 31 (λ x. omega arith)))
     (λ (off : s.broadcast ≡ false). rw off)
-    (yes_or_no s.broadcast)
+    (cases_Bool s.broadcast)
 
 -- with broadcast on, exactly the commands to 31 are broadcasts
 pub broadcasts_on : (s : Settings) (command : ℕ) → s.broadcast ≡ true → is_broadcast s command ≡ eqb (address_of command) 31

@@ -3,6 +3,7 @@ pub mod Command
 pub mod Fill
 pub mod Number
 pub mod Refusal
+pub mod Refusals
 pub mod Remembered
 pub mod Settings
 pub mod Sizes

@@ -49,3 +49,7 @@ count_full = 11
 -- "12 for an address beyond the RAM"
 abbrev pub address_beyond : ℕ
 address_beyond = 12
+
+-- "15 for a start address with fewer than two words left"
+abbrev pub no_room_to_start : ℕ
+no_room_to_start = 15

@@ -5,21 +5,20 @@ ghost use Rattle.words.specs.Bits.{bit_of, word_of};
 pub fn bit_of(b: bool) -> u16
     ensures { (result ≡ bit_of b) × (result ≤ 1) }
 {
-    if b { 1 } else { 0 }
+    u16::from(b)
 }
 
 // The bits of a word, from bit 15 down to bit 0.
 pub type Bits = [bool; 16];
 
 // The word with these bits.
+#[tactic(auto, unfolding(crate::specs::Bits::bits_of), using(crate::proofs::BitLaws::bits_fit))]
 pub fn word_of(bits: Bits) -> u16
     ensures { result ≡ word_of bits }
 {
     let mut word: u16 = 0;
-    let mut i: usize = 0;
-    while i < 16 {
-        word = 2 * word + bit_of(bits[i]);
-        i += 1;
+    for bit in bits {
+        word = 2 * word + u16::from(bit);
     }
     word
 }

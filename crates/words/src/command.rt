@@ -2,8 +2,6 @@
 ghost use Rattle.std.specs.Prelude.{◌≡◌};
 ghost use Rattle.words.specs.Command.{address_of, transmits, subaddress_of, count_field, word_count, is_mode_subaddress};
 
-use crate::choose::{either, pick};
-
 pub fn address(command: u16) -> u16
     ensures { result ≡ address_of command }
 {
@@ -28,16 +26,17 @@ pub fn count_field(command: u16) -> u16
     command % 32
 }
 
+#[tactic(auto, unfolding(crate::specs::Command::word_count))]
 pub fn word_count(command: u16) -> u16
     ensures { result ≡ word_count command }
 {
     let field = count_field(command);
-    pick(field == 0, 32, field)
+    if field == 0 { 32 } else { field }
 }
 
+#[tactic(auto, unfolding(crate::specs::Command::is_mode_subaddress))]
 pub fn mode_subaddress(command: u16) -> bool
     ensures { result ≡ is_mode_subaddress command }
 {
-    let sub = subaddress(command);
-    either(sub == 0, sub == 31)
+    matches!(subaddress(command), 0 | 31)
 }

@@ -7,6 +7,7 @@ pub mod bits;
 pub mod choose;
 pub mod command;
 pub mod number;
+pub mod refusal;
 pub mod remembered;
 pub mod settings;
 pub mod sizes;

@@ -2,7 +2,7 @@
 ghost use Rattle.std.specs.Prelude.{◌≡◌};
 ghost use Rattle.words.specs.Remembered.{nothing_remembered, remembering};
 
-#[derive(Clone, Copy)]
+#[derive(Clone, Copy, Debug, Default, PartialEq, Eq)]
 pub struct Remembered {
     pub command: u16,
     pub status: u16,
@@ -11,18 +11,16 @@ pub struct Remembered {
 pub fn nothing_remembered() -> Remembered
     ensures { result ≡ nothing_remembered }
 {
-    Remembered {
-        command: 0,
-        status: 0,
-    }
+    Remembered::default()
 }
 
 // A command and a status, put over what was remembered before.
 pub fn remembering(before: Remembered, command: u16, status: u16) -> Remembered
     ensures { result ≡ remembering before command status }
 {
-    let mut after = before;
-    after.command = command;
-    after.status = status;
-    after
+    Remembered {
+        command,
+        status,
+        ..before
+    }
 }
