@@ -1,16 +1,14 @@
 // A cell's description, read from its lookup word and its control word; its window; whether it is sound.
 ghost use Rattle.std.specs.Prelude.{◌≡◌, ◌<◌};
-ghost use Rattle.cells.specs.Shift.{control_shift};
 ghost use Rattle.cells.specs.Cell.{control_part, size_of, pick_scheme, lookup_at, cell_from, cell_at, window_of, double_fits, sound_within, sound_cell};
 
 use memory::kind::{Kind, able_to_write, cell_number};
 use memory::map::{control_place, lookup_table};
 use memory::ram::word_at;
 use windows::window::{Window, aligned_around, fits_below, meets_fixed, run_from, windows_meet};
-use words::choose::{both, no};
 use words::settings::Area;
 
-#[derive(Clone, Copy)]
+#[derive(Clone, Copy, Debug, PartialEq, Eq)]
 pub enum Scheme {
     Single,
     Double,
@@ -18,7 +16,7 @@ pub enum Scheme {
     Circular(u16),
 }
 
-#[derive(Clone, Copy)]
+#[derive(Clone, Copy, Debug, PartialEq, Eq)]
 pub struct Cell {
     pub kind: Kind,
     pub subaddress: u16,
@@ -31,7 +29,7 @@ pub struct Cell {
 }
 
 // What RAM says of a cell.
-#[derive(Clone, Copy)]
+#[derive(Clone, Copy, Debug, PartialEq, Eq)]
 pub struct Lookup {
     pub pointer: u16,
     // the five bits of its kind in the control word
@@ -40,22 +38,16 @@ pub struct Lookup {
     pub double: bool,
 }
 
-// How far above bit 0 the five bits of a kind stand in a control word.
-fn shift_of(kind: Kind) -> u16
-    ensures { result ≡ control_shift kind }
-{
-    match kind {
-        Kind::Receive => 5,
-        Kind::Transmit => 10,
-        Kind::Broadcast => 0,
-    }
-}
-
 // The five bits of a kind, lowest first: size, circular interrupt, end-of-message interrupt.
+#[tactic(auto, unfolding(crate::specs::Cell::control_part))]
 fn control_part(control: u16, kind: Kind) -> u16
     ensures { result ≡ control_part control kind }
 {
-    (control >> shift_of(kind)) % 32
+    match kind {
+        Kind::Receive => control / 32 % 32,
+        Kind::Transmit => control / 1024 % 32,
+        Kind::Broadcast => control % 32,
+    }
 }
 
 fn size_of(m: u16) -> u16
@@ -65,20 +57,22 @@ fn size_of(m: u16) -> u16
     64 << m
 }
 
+#[tactic(auto, unfolding(crate::specs::Cell::pick_scheme))]
 fn pick_scheme(m: u16, double: bool) -> Scheme
     requires { m < 8 }
     ensures { result ≡ pick_scheme m double }
 {
-    if m == 0 {
-        if double {
-            return Scheme::Double;
-        }
-        return Scheme::Single;
+    if m != 0 {
+        Scheme::Circular(size_of(m))
+    } else if double {
+        Scheme::Double
+    } else {
+        Scheme::Single
     }
-    Scheme::Circular(size_of(m))
 }
 
 // What RAM says of the cell of this kind and subaddress.
+#[tactic(auto, using(memory::proofs::Places::table_low, memory::proofs::Places::kind_low), unfolding(crate::specs::Cell::lookup_at, memory::specs::Kind::cell_number))]
 fn lookup_at(ram: &[u16], area: Area, kind: Kind, subaddress: u16) -> Lookup
     ensures { result ≡ lookup_at ram.now area kind subaddress }
 {
@@ -87,31 +81,31 @@ fn lookup_at(ram: &[u16], area: Area, kind: Kind, subaddress: u16) -> Lookup
     Lookup {
         pointer,
         part: control_part(control, kind),
-        double: both(control / 32768 == 1, able_to_write(kind)),
+        double: control / 32768 == 1 && able_to_write(kind),
     }
 }
 
 // The cell that this describes.
+#[tactic(auto, unfolding(crate::specs::Cell::cell_from))]
 fn cell_from(kind: Kind, subaddress: u16, l: Lookup) -> Cell
     ensures { result ≡ cell_from kind subaddress l }
 {
-    let scheme = pick_scheme(l.part % 8, l.double);
     Cell {
         kind,
         subaddress,
         pointer: l.pointer,
-        scheme,
+        scheme: pick_scheme(l.part % 8, l.double),
         circular_interrupt: l.part / 8 % 2 == 1,
         end_interrupt: l.part / 16 % 2 == 1,
     }
 }
 
 // The cell of this kind and subaddress, as RAM describes it.
+#[tactic(auto, unfolding(crate::specs::Cell::cell_at))]
 pub fn cell_at(ram: &[u16], area: Area, kind: Kind, subaddress: u16) -> Cell
     ensures { result ≡ cell_at ram.now area kind subaddress }
 {
-    let l = lookup_at(ram, area, kind, subaddress);
-    cell_from(kind, subaddress, l)
+    cell_from(kind, subaddress, lookup_at(ram, area, kind, subaddress))
 }
 
 // A way for each kind: its places and its bits are then fixed.
@@ -126,14 +120,15 @@ fn lookup_for(ram: &[u16], area: Area, kind: Kind, subaddress: u16) -> Lookup
 }
 
 // The same cell, for whoever asks often for cells of one kind, or for one cell.
+#[tactic(auto, unfolding(crate::specs::Cell::cell_at))]
 pub fn cell_by_kind(ram: &[u16], area: Area, kind: Kind, subaddress: u16) -> Cell
     ensures { result ≡ cell_at ram.now area kind subaddress }
 {
-    let l = lookup_for(ram, area, kind, subaddress);
-    cell_from(kind, subaddress, l)
+    cell_from(kind, subaddress, lookup_for(ram, area, kind, subaddress))
 }
 
 // The window of a cell.
+#[tactic(auto, unfolding(crate::specs::Cell::window_of))]
 pub fn window_of(scheme: Scheme, pointer: u16) -> Window
     ensures { result ≡ window_of scheme pointer }
 {
@@ -145,13 +140,13 @@ pub fn window_of(scheme: Scheme, pointer: u16) -> Window
 }
 
 // A double pointer is a multiple of 32.
+#[tactic(auto, unfolding(crate::specs::Cell::double_fits))]
 fn double_fits(scheme: Scheme, pointer: u16) -> bool
     ensures { result ≡ double_fits scheme pointer }
 {
     match scheme {
-        Scheme::Single => true,
         Scheme::Double => pointer % 32 == 0,
-        Scheme::Circular(_) => true,
+        Scheme::Single | Scheme::Circular(_) => true,
     }
 }
 
@@ -159,23 +154,16 @@ fn double_fits(scheme: Scheme, pointer: u16) -> bool
 pub fn sound_within(words: usize, stack: Window, c: Cell, w: Window) -> bool
     ensures { result ≡ sound_within words stack c w }
 {
-    if no(fits_below(w, words)) {
-        return false;
-    }
-    if meets_fixed(w) {
-        return false;
-    }
-    if windows_meet(w, stack) {
-        return false;
-    }
-    let scheme = c.scheme;
-    both((c.pointer as usize) < words, double_fits(scheme, c.pointer))
+    fits_below(w, words)
+        && !meets_fixed(w)
+        && !windows_meet(w, stack)
+        && (c.pointer as usize) < words
+        && double_fits(c.scheme, c.pointer)
 }
 
+#[tactic(auto, unfolding(crate::specs::Cell::sound_cell))]
 pub fn sound_cell(words: usize, stack: Window, c: Cell) -> bool
     ensures { result ≡ sound_cell words stack c }
 {
-    let scheme = c.scheme;
-    let w = window_of(scheme, c.pointer);
-    sound_within(words, stack, c, w)
+    sound_within(words, stack, c, window_of(c.scheme, c.pointer))
 }

@@ -5,17 +5,17 @@ ghost use Rattle.cells.specs.Stack.{stack_pointer, stack_window, stack_fits, sta
 use memory::map::stack_pointer_place;
 use memory::ram::word_at;
 use windows::window::{Window, aligned_around, fits_below, meets_fixed};
-use words::choose::{both, no};
 use words::settings::Settings;
 
+#[tactic(auto, unfolding(crate::specs::Stack::stack_pointer))]
 pub fn stack_pointer(ram: &[u16], s: Settings) -> u16
     ensures { result ≡ stack_pointer ram.now s }
 {
-    let area = s.area;
-    word_at(ram, stack_pointer_place(area))
+    word_at(ram, stack_pointer_place(s.area))
 }
 
 // The block aligned to the stack size around the stack pointer.
+#[tactic(auto, unfolding(crate::specs::Stack::stack_window))]
 pub fn stack_window(ram: &[u16], s: Settings) -> Window
     ensures { result ≡ stack_window ram.now s }
 {
@@ -26,15 +26,13 @@ pub fn stack_window(ram: &[u16], s: Settings) -> Window
 pub fn stack_fits(words: usize, pointer: u16, block: Window) -> bool
     ensures { result ≡ stack_fits words pointer block }
 {
-    if no(fits_below(block, words)) {
-        return false;
-    }
-    if meets_fixed(block) {
-        return false;
-    }
-    both(pointer % 4 == 0, (pointer as usize) + 4 <= words)
+    fits_below(block, words)
+        && !meets_fixed(block)
+        && pointer % 4 == 0
+        && (pointer as usize) + 4 <= words
 }
 
+#[tactic(auto, unfolding(crate::specs::Stack::stack_sound))]
 pub fn stack_sound(ram: &[u16], s: Settings) -> bool
     ensures { result ≡ stack_sound ram.now s }
 {

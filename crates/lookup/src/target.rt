@@ -6,11 +6,10 @@ use cells::cell::{Cell, cell_by_kind, window_of};
 use memory::kind::{cell_number, kind_of};
 use memory::map::{is_busy_at, is_illegal_at};
 use windows::window::Window;
-use words::choose::either;
 use words::command;
 use words::settings::{Settings, is_broadcast, is_own};
 
-#[derive(Clone, Copy)]
+#[derive(Clone, Copy, Debug, PartialEq, Eq)]
 pub struct Target {
     pub cell: Cell,
     pub window: Window,
@@ -21,27 +20,30 @@ pub struct Target {
 }
 
 // The cell that a command uses.
+#[tactic(auto, unfolding(crate::specs::Target::cell_for))]
 pub fn cell_for(ram: &[u16], s: Settings, command: u16) -> Cell
     ensures { result ≡ cell_for ram.now s command }
 {
-    let area = s.area;
     let kind = kind_of(s, command);
-    cell_by_kind(ram, area, kind, command::subaddress(command))
+    cell_by_kind(ram, s.area, kind, command::subaddress(command))
 }
 
+#[tactic(auto, unfolding(crate::specs::Target::is_illegal))]
 fn is_illegal(ram: &[u16], s: Settings, command: u16) -> bool
     ensures { result ≡ is_illegal ram.now s command }
 {
     is_illegal_at(ram, is_own(s, command), command)
 }
 
+#[tactic(auto, unfolding(crate::specs::Target::is_busy))]
 fn is_busy(ram: &[u16], s: Settings, command: u16) -> bool
     ensures { result ≡ is_busy ram.now s command }
 {
-    either(is_busy_at(ram, is_own(s, command), command), s.busy_always)
+    is_busy_at(ram, is_own(s, command), command) || s.busy_always
 }
 
 // Over the cell and its window, for whoever has worked them out.
+#[tactic(auto, using(memory::proofs::Numbers::number_fits))]
 pub fn target_with(ram: &[u16], s: Settings, command: u16, cell: Cell, window: Window) -> Target
     ensures { result ≡ target_with ram.now s command cell window }
 {
@@ -56,11 +58,10 @@ pub fn target_with(ram: &[u16], s: Settings, command: u16, cell: Cell, window: W
     }
 }
 
+#[tactic(auto, unfolding(crate::specs::Target::target_of))]
 pub fn target_of(ram: &[u16], s: Settings, command: u16) -> Target
     ensures { result ≡ target_of ram.now s command }
 {
     let cell = cell_for(ram, s, command);
-    let scheme = cell.scheme;
-    let window = window_of(scheme, cell.pointer);
-    target_with(ram, s, command, cell, window)
+    target_with(ram, s, command, cell, window_of(cell.scheme, cell.pointer))
 }

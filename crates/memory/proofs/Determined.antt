@@ -2,6 +2,10 @@
 -- allows are equal. Each line speaks of the contract as the checker reads it (`Reads.Post`), so that none can drift
 -- from its function.
 use mathlib.Core.Path.{refl}
+use mir.Syntax.{Dict}
+use denote.RattleType.{RattleType}
+use Rattle.std.specs.declared.clone.Clone
+use denote.Param.Laws.{Laws, IsCopy}
 use Rattle.words.proofs.Settled.{determined, Settled}
 use Rattle.memory.proofs.kind
 use Rattle.memory.proofs.map
@@ -43,5 +47,12 @@ is_illegal_at_settled κs a x y v w p q = (determined p q, refl)
 pub word_at_settled : Settled 1 ram.word_at.Kinds.ps ram.word_at.Kinds.r ram.word_at.Reads.Post
 word_at_settled κs a x y v w p q = (determined p q, refl)
 
-pub put_settled : Settled 1 ram.put.Kinds.ps ram.put.Kinds.r ram.put.Reads.Post
-put_settled κs a x y v w p q = (refl, λ i. (determined p q i, v.1))
+pub item_or_settled :
+    (T : RattleType) (laws : Laws T) (copy : IsCopy T) (clone : Clone.Ghosts T.Denot) (dict : Dict) →
+    Settled 2 (ram.item_or.Kinds.ps T laws copy) (ram.item_or.Kinds.r T laws copy) (ram.item_or.Reads.Post T laws copy clone dict)
+item_or_settled T laws copy clone dict κs a x y v w p q = (determined p q, refl)
+
+pub put_settled :
+    (T : RattleType) (laws : Laws T) (copy : IsCopy T) (clone : Clone.Ghosts T.Denot) (dict : Dict) →
+    Settled 2 (ram.put.Kinds.ps T laws copy) (ram.put.Kinds.r T laws copy) (ram.put.Reads.Post T laws copy clone dict)
+put_settled T laws copy clone dict κs a x y v w p q = (refl, λ i. (determined p q i, v.1))

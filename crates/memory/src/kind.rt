@@ -5,65 +5,57 @@ ghost use Rattle.memory.specs.Kind.{kind_number, cell_number, kind_numbered, abl
 use words::command;
 use words::settings::{Settings, is_broadcast};
 
-#[derive(Clone, Copy)]
+#[derive(Clone, Copy, Debug, PartialEq, Eq)]
 pub enum Kind {
-    Receive,
-    Transmit,
-    Broadcast,
+    Receive = 0,
+    Transmit = 1,
+    Broadcast = 2,
 }
 
+// The number of a kind. A function beside `kind as u16`, since `docs/DECISIONS.md` names its promise.
 pub fn kind_number(kind: Kind) -> u16
     ensures { result ≡ kind_number kind }
 {
-    match kind {
-        Kind::Receive => 0,
-        Kind::Transmit => 1,
-        Kind::Broadcast => 2,
-    }
+    kind as u16
 }
 
 // The number fits a u16 for every subaddress that a command can name, and a usize for any other.
+#[tactic(auto, unfolding(crate::specs::Kind::cell_number))]
 pub fn cell_number(kind: Kind, subaddress: u16) -> usize
     ensures { result ≡ cell_number kind subaddress }
 {
     32 * (kind_number(kind) as usize) + subaddress as usize
 }
 
-// The kind of the cell with this number.
+// The kind of the cell with this number. No `From`: it is a cell's number and not a kind's.
+#[tactic(auto, unfolding(crate::specs::Kind::kind_numbered))]
 pub fn kind_numbered(number: u16) -> Kind
     ensures { result ≡ kind_numbered number }
 {
-    if number < 32 {
-        return Kind::Receive;
+    match number {
+        0..32 => Kind::Receive,
+        32..64 => Kind::Transmit,
+        _ => Kind::Broadcast,
     }
-    if number < 64 {
-        return Kind::Transmit;
-    }
-    Kind::Broadcast
 }
 
 // Receive and broadcast cells are written to; a transmit cell only sends.
 pub fn able_to_write(kind: Kind) -> bool
     ensures { result ≡ able_to_write kind }
 {
-    match kind {
-        Kind::Receive => true,
-        Kind::Transmit => false,
-        Kind::Broadcast => true,
-    }
+    matches!(kind, Kind::Receive | Kind::Broadcast)
 }
 
 // The kind of the cell that a command uses.
+#[tactic(auto, unfolding(crate::specs::Kind::kind_of))]
 pub fn kind_of(s: Settings, command: u16) -> Kind
     ensures { result ≡ kind_of s command }
 {
     if command::transmit(command) {
-        return Kind::Transmit;
+        Kind::Transmit
+    } else if s.separate_broadcast && is_broadcast(s, command) {
+        Kind::Broadcast
+    } else {
+        Kind::Receive
     }
-    if s.separate_broadcast {
-        if is_broadcast(s, command) {
-            return Kind::Broadcast;
-        }
-    }
-    Kind::Receive
 }

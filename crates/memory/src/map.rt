@@ -3,17 +3,17 @@ ghost use Rattle.std.specs.Prelude.{◌≡◌, ◌<◌};
 ghost use Rattle.memory.specs.Map.{ram_refused, stack_pointer_place, lookup_table, control_place, busy_place, illegal_place, bit_set, is_busy_at, is_illegal_at};
 
 use crate::ram::word_at;
-use words::bits::bit_of;
-use words::choose::{either, no};
 use words::command;
 use words::settings::Area;
 
+#[tactic(auto, unfolding(crate::specs::Map::ram_refused))]
 pub fn ram_refused(words: usize) -> bool
     ensures { result ≡ ram_refused words }
 {
-    no(either(words == 4096, words == 65536))
+    !matches!(words, 4096 | 65536)
 }
 
+#[tactic(auto, unfolding(crate::specs::Map::stack_pointer_place))]
 pub fn stack_pointer_place(area: Area) -> usize
     ensures { result ≡ stack_pointer_place area }
 {
@@ -23,6 +23,7 @@ pub fn stack_pointer_place(area: Area) -> usize
     }
 }
 
+#[tactic(auto, unfolding(crate::specs::Map::lookup_table))]
 pub fn lookup_table(area: Area) -> usize
     ensures { result ≡ lookup_table area }
 {
@@ -32,28 +33,31 @@ pub fn lookup_table(area: Area) -> usize
     }
 }
 
+#[tactic(auto, using(crate::proofs::Places::table_low))]
 pub fn control_place(area: Area, subaddress: u16) -> usize
     ensures { result ≡ control_place area subaddress }
 {
     lookup_table(area) + 96 + subaddress as usize
 }
 
+#[tactic(auto, unfolding(crate::specs::Map::busy_place))]
 fn busy_place(own: bool, command: u16) -> usize
     ensures { result ≡ busy_place own command }
 {
     let sub = command::subaddress(command);
-    let place = 0x240 + 4 * bit_of(own) + 2 * bit_of(command::transmit(command)) + sub / 16;
+    let place = 0x240 + 4 * u16::from(own) + 2 * u16::from(command::transmit(command)) + sub / 16;
     place as usize
 }
 
+#[tactic(auto, unfolding(crate::specs::Map::illegal_place))]
 fn illegal_place(own: bool, command: u16) -> usize
     ensures { result ≡ illegal_place own command }
 {
     let sub = command::subaddress(command);
     let field = command::count_field(command);
     let place = 0x300
-        + 128 * bit_of(own)
-        + 64 * bit_of(command::transmit(command))
+        + 128 * u16::from(own)
+        + 64 * u16::from(command::transmit(command))
         + 2 * sub
         + field / 16;
     place as usize
@@ -67,6 +71,7 @@ fn bit_set(word: u16, bit: u16) -> bool
     (word >> bit) % 2 == 1
 }
 
+#[tactic(auto, unfolding(crate::specs::Map::is_busy_at))]
 pub fn is_busy_at(ram: &[u16], own: bool, command: u16) -> bool
     ensures { result ≡ is_busy_at ram.now own command }
 {
@@ -76,6 +81,7 @@ pub fn is_busy_at(ram: &[u16], own: bool, command: u16) -> bool
     )
 }
 
+#[tactic(auto, unfolding(crate::specs::Map::is_illegal_at))]
 pub fn is_illegal_at(ram: &[u16], own: bool, command: u16) -> bool
     ensures { result ≡ is_illegal_at ram.now own command }
 {

@@ -1,14 +1,22 @@
-// Reading and writing lent RAM. Both are total: a place past the end reads 0 and takes no word, so definition and code
-// agree everywhere. A sound message never goes there.
+// Reading and writing lent memory: RAM, and the tables and texts that are lent beside it. All is total: a place past the
+// end reads what is asked for there and takes nothing, so definition and code agree everywhere. A sound message never
+// goes there.
 ghost use Rattle.std.specs.Prelude.{◌≡◌, get_or, set};
+
+// The item at a place, or else this other one.
+pub fn item_or<T: Copy>(items: &[T], at: usize, other: T) -> T
+    ensures { result ≡ get_or items.now at other }
+{
+    items.get(at).copied().unwrap_or(other)
+}
 
 pub fn word_at(ram: &[u16], at: usize) -> u16
     ensures { result ≡ get_or ram.now at 0 }
 {
-    if at < ram.len() { ram[at] } else { 0 }
+    item_or(ram, at, 0)
 }
 
-pub fn put(ram: &mut [u16], at: usize, word: u16)
+pub fn put<T: Copy>(ram: &mut [T], at: usize, word: T)
     ensures { ram.new ≡ set ram.old at word }
 {
     if at < ram.len() {
