@@ -13,7 +13,7 @@ use words::settings::Settings;
 use words::sizes::RECORD_BYTES;
 
 // What walking hands back: the remembered state, the last record's number, and how much text stands in the buffer.
-#[derive(Clone, Copy)]
+#[derive(Clone, Copy, Debug, PartialEq, Eq)]
 pub struct Walked {
     pub remembered: Remembered,
     pub number: u64,
