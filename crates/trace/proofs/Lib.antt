@@ -1,3 +1,4 @@
+pub mod Left
 pub mod Walks
 pub mod Chunks
 pub mod Printed

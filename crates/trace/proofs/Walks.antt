@@ -1,5 +1,5 @@
 -- Where a walk stands after some records.
-use Rattle.std.proofs.Common.{◌≡◌, ℕ, zero, suc, ◌+◌, ◌-◌, ◌*◌, ◌%◌, ◌^◌, ◌<◌, ◌≤◌, List, length, take, drop, refl, add-one, arith, length-append}
+use Rattle.std.proofs.Common.{◌≡◌, ℕ, zero, suc, ◌+◌, ◌*◌, ◌%◌, ◌^◌, ◌<◌, ◌≤◌, List, length, refl, add-one, arith, length-append}
 use Rattle.words.specs.declared.settings.Settings.{Settings}
 use Rattle.words.specs.declared.remembered.Remembered.{Remembered}
 use Rattle.memory.specs.State.{state_of}
@@ -61,10 +61,6 @@ pub stands_none :
 unfolding walk_to
 stands_none s trace ram reply room before number h =
     record { state = refl; text = put_none h (omega arith); number = refl }
-
--- what lies between the places of a record and of the next is that record
-pub record_between : (trace : List ℕ) (n : ℕ) → take (80 * n + 80 - 80 * n) (drop (80 * n) trace) ≡ record_at trace n
-record_between trace n = let long : 80 * n + 80 - 80 * n ≡ 80 = omega arith in rw long
 
 -- one record more, whatever bytes were handed on, where they are that record
 pub stands_more :

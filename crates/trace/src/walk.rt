@@ -4,7 +4,6 @@ ghost use Rattle.std.proofs.lemmas.List.Edits.{sets};
 ghost use Rattle.trace.specs.Walk.{Leaves, walk_start, walk_record, walk_all, walked_of};
 
 use message::serve::message_from_bytes;
-use std::num::wrapping_add_u64;
 use text::table::HexTable;
 use text::text::Text;
 use words::remembered::Remembered;
@@ -12,7 +11,7 @@ use words::settings::Settings;
 use words::sizes::RECORD_BYTES;
 
 // What walking hands back: the remembered state, the last record's number, and how much text stands in the buffer.
-#[derive(Clone, Copy)]
+#[derive(Clone, Copy, Debug, PartialEq, Eq)]
 pub struct Walked {
     pub remembered: Remembered,
     pub number: u64,
@@ -31,16 +30,13 @@ fn walk_one(
 ) -> Walked
     ensures { Leaves (walk_record s bytes.now (walk_start ram.old reply.old w.remembered w.number)) out.old w.used ram.new reply.new out.new result }
 {
-    let before = w.remembered;
-    let number = wrapping_add_u64(w.number, 1);
+    let number = w.number.wrapping_add(1);
     let mut text = Text { out, at: w.used };
     text.put_decimal(number);
-    let outcome = message_from_bytes(ram, reply, s, before, bytes);
-    let answer = outcome.answer;
-    let remembered = outcome.remembered;
-    text.put_columns(answer, table);
+    let outcome = message_from_bytes(ram, reply, s, w.remembered, bytes);
+    text.put_columns(outcome.answer, table);
     Walked {
-        remembered,
+        remembered: outcome.remembered,
         number,
         used: text.at,
     }
@@ -63,17 +59,13 @@ fn walk_records(
     ensures reply { reply.new ≡ (walk_all s trace.now (walk_start ram.old reply.old before number)).state.reply }
     ensures out { out.new ≡ sets out.old 0 (walk_all s trace.now (walk_start ram.old reply.old before number)).text }
 {
-    let records = trace.len() / RECORD_BYTES;
     let mut w = Walked {
         remembered: before,
         number,
         used: 0,
     };
-    let mut i: usize = 0;
-    while i < records {
-        let at = RECORD_BYTES * i;
-        w = walk_one(ram, reply, out, s, w, &trace[at..at + RECORD_BYTES], table);
-        i += 1;
+    for bytes in trace.chunks_exact(RECORD_BYTES) {
+        w = walk_one(ram, reply, out, s, w, bytes, table);
     }
     w
 }

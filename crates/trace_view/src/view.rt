@@ -1,13 +1,13 @@
 // A view that holds the caller's trace and a place in it. `next` takes it apart and calls `take_at` on the slice and
 // the number.
-ghost use Rattle.std.specs.Prelude.{◌≡◌};
-ghost use Rattle.trace_view.specs.View.{has_record, none_at, taken_at};
+ghost use Rattle.std.specs.Prelude.{◌≡◌, ◌<◌, ◌≤◌, ◌+◌, length, take, drop, MatchOption};
+ghost use Rattle.trace_view.specs.View.{none_at, taken_at};
 
 use layout::reader::{Reading, read};
 use records::value::zero_value;
 use words::sizes::RECORD_BYTES;
 
-#[derive(Clone, Copy)]
+#[derive(Clone, Copy, Debug, PartialEq, Eq)]
 pub struct View<'a> {
     pub trace: &'a [u8],
     pub at: usize,
@@ -22,6 +22,7 @@ pub struct Taken {
 }
 
 // None, and the place stays.
+#[tactic(auto, unfolding(crate::specs::View::none_at, layout::specs::Layout::not_read))]
 fn none_at(at: usize) -> Taken
     ensures { result ≡ none_at at }
 {
@@ -34,29 +35,27 @@ fn none_at(at: usize) -> Taken
     }
 }
 
-// Whether 80 bytes stand at a place, which may lie beyond the end.
-fn has_record(trace: &[u8], at: usize) -> bool
-    ensures { result ≡ has_record trace.now at }
+// The 80 bytes at a place, which may lie beyond the end.
+fn bytes_at(trace: &[u8], at: usize) -> Option<&[u8]>
+    ensures { MatchOption result (length trace.now < at + 80) (λ bytes. (at + 80 ≤ length trace.now) × (bytes.now ≡ take 80 (drop at trace.now))) }
 {
-    if trace.len() < at {
-        return false;
-    }
-    RECORD_BYTES <= trace.len() - at
+    let end = at.checked_add(RECORD_BYTES)?;
+    trace.get(at..end)
 }
 
 // The work: the record at a place of a slice.
+#[tactic(auto, using(crate::proofs::Views::taken_none, crate::proofs::Views::taken_some))]
 pub fn take_at(trace: &[u8], at: usize) -> Taken
     ensures { result ≡ taken_at trace.now at }
 {
-    if has_record(trace, at) {
-        let reading = read(&trace[at..at + RECORD_BYTES]);
-        return Taken {
-            found: true,
-            at: at + RECORD_BYTES,
-            reading,
-        };
+    let Some(bytes) = bytes_at(trace, at) else {
+        return none_at(at);
+    };
+    Taken {
+        found: true,
+        at: at + RECORD_BYTES,
+        reading: read(bytes),
     }
-    none_at(at)
 }
 
 pub fn view_of<'a>(trace: &'a [u8]) -> View<'a>
@@ -74,5 +73,5 @@ pub fn next<'a>(v: View<'a>) -> Taken
 pub fn moved<'a>(v: View<'a>, at: usize) -> View<'a>
     ensures { (result.trace ≡ v.entry.trace) × (result.at ≡ at) }
 {
-    View { trace: v.trace, at }
+    View { at, ..v }
 }

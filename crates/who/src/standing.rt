@@ -15,14 +15,13 @@ pub struct Standing {
 }
 
 // Before the first record.
+#[tactic(auto, unfolding(crate::specs::Replay::beginning))]
 pub fn begin() -> Standing
     ensures { result ≡ beginning }
 {
-    let remembered = nothing_remembered();
-    let who = Who::AsInImage;
     Standing {
-        remembered,
+        remembered: nothing_remembered(),
         number: 0,
-        who,
+        who: Who::AsInImage,
     }
 }

@@ -7,6 +7,7 @@ use words::number::{ADDRESS_BEYOND, BAD_SETTINGS, RAM_LENGTH};
 use words::settings::{Settings, settings_refused};
 
 // 1, then 3.
+#[tactic(auto, unfolding(crate::specs::Tests::replay_refusal, words::specs::Refusal::first_of))]
 fn replay_refusal(words: usize, s: Settings) -> u16
     ensures { result ≡ replay_refusal words s }
 {
@@ -20,6 +21,7 @@ fn replay_refusal(words: usize, s: Settings) -> u16
 }
 
 // 1, 3, then 12.
+#[tactic(auto, using(crate::proofs::Early::who_stops, crate::proofs::Early::who_passes), unfolding(words::specs::Refusal::first_of))]
 pub fn who_refusal(words: usize, s: Settings, address: u16) -> u16
     ensures { result ≡ who_refusal words s address }
 {

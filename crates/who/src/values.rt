@@ -7,7 +7,7 @@ use writes::part::Part;
 
 // The number that refuses, or 0; then the number of the last record that wrote there, or 0 where the word is as in the
 // image; what it wrote, the cell of its message, and the place of the word.
-#[derive(Clone, Copy)]
+#[derive(Clone, Copy, Debug, Default, PartialEq, Eq)]
 pub struct Values {
     pub number: u16,
     pub last: u64,
@@ -16,7 +16,7 @@ pub struct Values {
     pub place: u16,
 }
 
-// 1 data word, 2 lookup pointer, 3 stack word, 4 stack pointer.
+// 1 data word, 2 lookup pointer, 3 stack word, 4 stack pointer. Numbers for kinds, since C's callers take these.
 pub fn part_kind(part: Part) -> u16
     ensures { result ≡ part_kind part }
 {
@@ -32,40 +32,27 @@ pub fn part_place(part: Part) -> u16
     ensures { result ≡ part_place part }
 {
     match part {
-        Part::Data(place) => place,
-        Part::Pointer => 0,
-        Part::Stack(place) => place,
-        Part::StackPointer => 0,
+        Part::Data(place) | Part::Stack(place) => place,
+        Part::Pointer | Part::StackPointer => 0,
     }
 }
 
+#[tactic(auto, unfolding(crate::specs::Values::values_of))]
 pub fn values_of(who: Who) -> Values
     ensures { result ≡ values_of who }
 {
     match who {
         Who::Refused(number) => Values {
             number,
-            last: 0,
-            kind: 0,
-            cell: 0,
-            place: 0,
+            ..Values::default()
         },
-        Who::AsInImage => Values {
+        Who::AsInImage => Values::default(),
+        Who::Written(origin) => Values {
             number: 0,
-            last: 0,
-            kind: 0,
-            cell: 0,
-            place: 0,
+            last: origin.number,
+            kind: part_kind(origin.part),
+            cell: origin.cell,
+            place: part_place(origin.part),
         },
-        Who::Written(origin) => {
-            let part = origin.part;
-            Values {
-                number: 0,
-                last: origin.number,
-                kind: part_kind(part),
-                cell: origin.cell,
-                place: part_place(part),
-            }
-        }
     }
 }

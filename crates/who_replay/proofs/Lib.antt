@@ -1,5 +1,4 @@
 pub mod Taking
 pub mod Recorded
-pub mod Going
 pub mod Filling
 pub mod Determined

@@ -6,7 +6,6 @@ ghost use Rattle.who_tables.specs.Table.{tables_of, fill_record, fill_all, refus
 
 use crate::taken::take_record;
 use message::perform::Performed;
-use std::num::wrapping_add_u64;
 use who_tables::table::{Filling, mark_plan};
 use who_tables::tests::fill_refusal;
 use words::settings::Settings;
@@ -20,6 +19,7 @@ pub struct Filled {
 }
 
 // One record more.
+#[tactic(auto, using(crate::proofs::Filling::fill_refused, crate::proofs::Filling::fill_done))]
 fn fill_record(
     ram: &mut [u16],
     numbers: &mut [u64],
@@ -30,18 +30,15 @@ fn fill_record(
 ) -> Filling
     ensures { tables_of ram.new numbers.new marks.new result ≡ fill_record s (heard_bytes bytes.now) (tables_of ram.old numbers.old marks.old at) }
 {
-    let before = at.remembered;
-    let number = wrapping_add_u64(at.number, 1);
-    let taken = take_record(ram, s, before, bytes);
-    match taken {
-        Performed::Refused(_) => Filling {
-            remembered: before,
-            number,
-        },
+    let number = at.number.wrapping_add(1);
+    match take_record(ram, s, at.remembered, bytes) {
+        Performed::Refused(_) => Filling { number, ..at },
         Performed::Done(plan) => {
-            let remembered = plan.remembered;
             mark_plan(numbers, marks, s, plan, number);
-            Filling { remembered, number }
+            Filling {
+                remembered: plan.remembered,
+                number,
+            }
         }
     }
 }
@@ -57,13 +54,9 @@ fn fill_all(
 ) -> Filling
     ensures { tables_of ram.new numbers.new marks.new result ≡ fill_all s (heard_in trace.now) (tables_of ram.old numbers.old marks.old at) }
 {
-    let records = trace.len() / RECORD_BYTES;
     let mut w = at;
-    let mut i: usize = 0;
-    while i < records {
-        let from = RECORD_BYTES * i;
-        w = fill_record(ram, numbers, marks, s, w, &trace[from..from + RECORD_BYTES]);
-        i += 1;
+    for bytes in trace.chunks_exact(RECORD_BYTES) {
+        w = fill_record(ram, numbers, marks, s, w, bytes);
     }
     w
 }
@@ -71,6 +64,7 @@ fn fill_all(
 // A part of a trace: RAM is replayed where it is lent, and the tables go on from what they hold, all zero at first. A
 // table that is not as long as RAM is refused with 1. A refusal changes nothing, and nothing remembers it: the next part
 // goes on as if the refused one had never been lent.
+#[tactic(auto, unfolding(who_tables::specs::Table::filled_with))]
 pub fn fill(
     ram: &mut [u16],
     numbers: &mut [u64],

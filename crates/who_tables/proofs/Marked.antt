@@ -1,35 +1,18 @@
 -- Marking a plan's writes, part by part, is its list of marks.
-use Prim.Native.Nat.{ℕ, ◌+◌}
+use Prim.Native.Nat.{ℕ}
 use mathlib.Core.Path.{◌≡◌, refl}
-use mathlib.Core.Bool.{true, false}
 use mathlib.Core.List.{List}
 use lib.ListN.{set}
 use Rattle.words.specs.declared.settings.Settings.{Settings}
 use Rattle.records.specs.declared.value.Record.{Record}
-use Rattle.memory.specs.Map.{lookup_table, stack_pointer_place}
+use Rattle.memory.specs.Map.{stack_pointer_place}
 use Rattle.memory.specs.Writes.{apply_writes}
 use Rattle.memory.proofs.Writes.{apply_append}
-use Rattle.plan.specs.declared.deed.Deed.{Deed}
 use Rattle.plan.specs.declared.plan.Plan.{Plan}
 use Rattle.writes.specs.declared.part.Part.{Part}
-use Rattle.writes.specs.declared.part.Part.TheVariants.{Pointer, StackPointer}
-use Rattle.writes.specs.Writes.{pointer_list, entry_list, deed_list, stack_list, list_of}
+use Rattle.writes.specs.declared.part.Part.TheVariants.{StackPointer}
+use Rattle.writes.specs.Writes.{entry_list, deed_list, stack_list, list_of}
 use Rattle.who_tables.specs.Table.{marking, mark_writes, data_marks, pointer_marks, stack_marks}
-
--- the pointer where it moves, and where it stays
-pub pointer_marked :
-    (f : Part → ℕ) (s : Settings) (d : Deed) (table : ℕ) (t t₁ : List ℕ) →
-    d.moves ≡ true →
-    table ≡ lookup_table s.area →
-    t₁ ≡ set t (table + d.cell) (f Pointer) →
-    t₁ ≡ apply_writes (pointer_marks f s d) t
-unfolding pointer_list apply_writes
-pointer_marked f s d table t t₁ e l e₁ = rw (e, e₁, l)
-
-pub pointer_unmarked :
-    (f : Part → ℕ) (s : Settings) (d : Deed) (t : List ℕ) → d.moves ≡ false → t ≡ apply_writes (pointer_marks f s d) t
-unfolding pointer_list apply_writes
-pointer_unmarked f s d t e = rw e
 
 -- a table asks for no word that is written
 pub marks_listed : (f : Part → ℕ) (s : Settings) (p : Plan) (v : Record) → mark_writes f s p ≡ list_of (marking f) s p v

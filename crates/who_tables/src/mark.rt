@@ -4,10 +4,10 @@ ghost use Rattle.who_tables.specs.Mark.{mark_of, part_marked, entry_of, place_fi
 
 use who::values::{part_kind, part_place};
 use who_origin::origin::{Origin, Who};
-use words::choose::{both, either};
 use writes::part::Part;
 
-// A write's kind, place and cell in one word.
+// A write's kind, place and cell in one word. Numbers for kinds, since the C interface lends tables of such words.
+#[tactic(auto, unfolding(crate::specs::Mark::mark_of))]
 pub(crate) fn mark_of(cell: u16, part: Part) -> u16
     ensures { result ≡ mark_of cell part }
 {
@@ -15,59 +15,56 @@ pub(crate) fn mark_of(cell: u16, part: Part) -> u16
 }
 
 // The kind and place of a mark.
+#[tactic(auto, unfolding(crate::specs::Mark::part_marked))]
 fn part_marked(mark: u16) -> Part
     ensures { result ≡ part_marked mark }
 {
-    let kind = mark / 8192;
     let place = mark / 128 % 64;
-    if kind == 1 {
-        return Part::Data(place);
+    match mark / 8192 {
+        1 => Part::Data(place),
+        2 => Part::Pointer,
+        3 => Part::Stack(place),
+        _ => Part::StackPointer,
     }
-    if kind == 2 {
-        return Part::Pointer;
-    }
-    if kind == 3 {
-        return Part::Stack(place);
-    }
-    Part::StackPointer
 }
 
 // What a number and a mark say; number 0 is no record's.
+#[tactic(auto, unfolding(crate::specs::Mark::entry_of))]
 pub(crate) fn entry_of(number: u64, mark: u16) -> Who
     ensures { result ≡ entry_of number mark }
 {
     if number == 0 {
         return Who::AsInImage;
     }
-    let part = part_marked(mark);
-    let origin = Origin {
+    Who::Written(Origin {
         number,
         cell: mark % 128,
-        part,
-    };
-    Who::Written(origin)
+        part: part_marked(mark),
+    })
 }
 
 // The place that a write of each kind has.
+#[tactic(auto, unfolding(crate::specs::Mark::place_fits))]
 fn place_fits(kind: u16, place: u16) -> bool
     ensures { result ≡ place_fits kind place }
 {
-    if kind == 1 {
-        return both(1 <= place, place <= 32);
+    match kind {
+        1 => 1 <= place && place <= 32,
+        3 => 1 <= place && place <= 4,
+        2 | 4 => place == 0,
+        _ => false,
     }
-    if kind == 3 {
-        return both(1 <= place, place <= 4);
-    }
-    both(either(kind == 2, kind == 4), place == 0)
 }
 
+#[tactic(auto, unfolding(crate::specs::Mark::is_mark))]
 fn is_mark(mark: u16) -> bool
     ensures { result ≡ is_mark mark }
 {
-    both(mark % 128 < 96, place_fits(mark / 8192, mark / 128 % 64))
+    mark % 128 < 96 && place_fits(mark / 8192, mark / 128 % 64)
 }
 
 // Nothing at all, or the number of a record with the mark of a write.
+#[tactic(auto, unfolding(crate::specs::Mark::is_entry))]
 pub(crate) fn is_entry(number: u64, mark: u16) -> bool
     ensures { result ≡ is_entry number mark }
 {

@@ -6,20 +6,18 @@ use crate::mark::is_entry;
 use crate::table::number_at;
 use memory::map::ram_refused;
 use memory::ram::word_at;
-use words::choose::{both, either, no};
 use words::number::{ADDRESS_BEYOND, BAD_SETTINGS, RAM_LENGTH, RECORD_LAYOUT};
 use words::settings::{Settings, settings_refused};
 
+#[tactic(auto, unfolding(crate::specs::Tests::tables_refused))]
 fn tables_refused(words: usize, numbers: usize, marks: usize) -> bool
     ensures { result ≡ tables_refused words numbers marks }
 {
-    either(
-        ram_refused(words),
-        no(both(numbers == words, marks == words)),
-    )
+    ram_refused(words) || !(numbers == words && marks == words)
 }
 
 // Before a part of a trace is replayed into tables: 1, then 3.
+#[tactic(auto, unfolding(crate::specs::Tests::fill_refusal, words::specs::Refusal::first_of))]
 pub fn fill_refusal(words: usize, numbers: usize, marks: usize, s: Settings) -> u16
     ensures { result ≡ fill_refusal words numbers marks s }
 {
@@ -33,14 +31,15 @@ pub fn fill_refusal(words: usize, numbers: usize, marks: usize, s: Settings) -> 
 }
 
 // Before tables are asked about an address: 1, 5, then 12.
+#[tactic(auto, unfolding(crate::specs::Tests::entry_refusal, words::specs::Refusal::first_of))]
 pub(crate) fn entry_refusal(numbers: &[u64], marks: &[u16], address: u16) -> u16
     ensures { result ≡ entry_refusal numbers.now marks.now address }
 {
-    let a = address as usize;
+    let a = usize::from(address);
     if tables_refused(numbers.len(), numbers.len(), marks.len()) {
         return RAM_LENGTH;
     }
-    if no(is_entry(number_at(numbers, a), word_at(marks, a))) {
+    if !is_entry(number_at(numbers, a), word_at(marks, a)) {
         return RECORD_LAYOUT;
     }
     if numbers.len() <= a {

@@ -1,26 +1,32 @@
--- `fill_all` meets its contract. The loop's invariant: `i` records are replayed.
-use Rattle.std.proofs.Common.{◌≡◌, ◌+◌, ◌-◌, ◌*◌, ◌/◌, length, refl, ◌∙◌, arith}
+-- `fill_all` meets its contract. The loop's invariant: the records that the iterator gave are replayed.
+use Rattle.std.proofs.Common.{refl}
+use Rattle.std.proofs.lemmas.List.{length_push}
+use Rattle.trace.proofs.Left.{all_left, next_record, fewer_left, none_left}
 use Rattle.who.specs.Replay.{heard_to, heard_in}
 use Rattle.who_tables.specs.Table.{fill_all}
 use Rattle.who_replay.proofs.Filling.{fill_more}
 use Rattle.who_replay.proofs.fill.fill_all.Goals as goal
 
-pub loop-i-init : goal.loop-i-init
+pub loop-bytes-init : goal.loop-bytes-init
 unfolding fill_all heard_to
-loop-i-init c = (omega arith, (refl, (refl, (refl, refl))))
+loop-bytes-init c =
+    let chunks = c.chunks_exact-bytes-items.ensures in
+    record {
+      left = rw (c.into_iter-bytes-iterator.ensures.into_iter_gives, chunks.rest, chunks.size) (all_left c.args.trace.now);
+      stands = refl;
+    }
+
+pub loop-bytes-preserved : goal.loop-bytes-preserved
+loop-bytes-preserved c =
+    let l = c.loop-bytes.invariant in
+    let step = c.in-Some.ensures.steps in
+    let n = length_push c.loop-bytes.yielded c.in-Some.bytes in
+    record {
+      left = rw n (fewer_left l.left _ _ _ step.1.0 step.1.1 step.0);
+      stands = rw (n, fill_more, ← l.stands, ← next_record l.left _ _ step.1.0 step.1.1) c.fill_record-w.ensures;
+    }
 
 pub returns : goal.returns
 unfolding heard_in
-returns c = let e : c.loop-i.i ≡ length c.args.trace.now / 80 = omega arith in
-    rw e at c.loop-i.invariant.1.0
-
-pub loop-i-preserved : goal.loop-i-preserved
-loop-i-preserved c = let l = c.loop-i in
-    let e : 80 * l.i + 80 - 80 * l.i ≡ 80 = omega arith in
-    let n = l.invariant.1.1 in (
-      omega arith,
-      (
-        rw (fill_more, ← l.invariant.1.0) (rw e at c.fill_record-w.ensures),
-        (c.fill_record-w.auto.ram ∙ n.0, (c.fill_record-w.auto.numbers ∙ n.1.0, c.fill_record-w.auto.marks ∙ n.1.1)),
-      ),
-    )
+returns c =
+    let l = c.loop-bytes.invariant in rw (none_left l.left c.in-None.ensures.steps.1.0) at l.stands

@@ -1,5 +1,5 @@
 -- `mark_data` meets its contract. The loop's invariant: `k` words are marked.
-use Prim.Native.Nat.{◌+◌, ◌-◌, ◌≤◌}
+use Prim.Native.Nat.{◌+◌}
 use mathlib.Core.Path.{◌≡◌}
 use Rattle.memory.specs.Writes.{apply_writes, writes_to}
 use Rattle.windows.specs.Window.{place_of}
@@ -9,9 +9,5 @@ use Rattle.who_tables.proofs.table.mark_data.Given as goal
 
 abbrev pub invariant-loop-k : goal.invariant-loop-k
 invariant-loop-k l =
-    (l.k ≤ l.n)
-    × ((l.numbers ≡ apply_writes (writes_to (place_of l.w) (λ i. l.number) l.k) l.initial.numbers)
-    × (l.marks ≡ apply_writes (writes_to (place_of l.w) (λ i. mark_of l.cell (Data (i + 1))) l.k) l.initial.marks))
-
-abbrev pub decreases-loop-k : goal.decreases-loop-k
-decreases-loop-k l = l.n - l.k
+    (l.numbers ≡ apply_writes (writes_to (place_of l.d.window) (λ i. l.number) l.k) l.initial.numbers)
+    × (l.marks ≡ apply_writes (writes_to (place_of l.d.window) (λ i. mark_of l.d.cell (Data (i + 1))) l.k) l.initial.marks)
