@@ -2,6 +2,10 @@
 -- allows are equal. Each line speaks of the contract as the checker reads it (`Reads.Post`), so that none can drift
 -- from its function.
 use mathlib.Core.Path.{refl}
+use denote.RattleType.{RattleType}
+use denote.Param.Laws.{Laws, IsCopy}
+use mir.Syntax.{Dict}
+use Rattle.std.specs.declared.clone.Clone.{Ghosts}
 use Rattle.words.proofs.Settled.{determined, Settled}
 use Rattle.c_words.proofs.over
 use Rattle.c_words.proofs.setup
@@ -21,5 +25,9 @@ put_four_settled κs a x y v w p q = (refl, λ i. (determined p q i, v.1))
 pub put_words_settled : Settled 1 over.put_words.Kinds.ps over.put_words.Kinds.r over.put_words.Reads.Post
 put_words_settled κs a x y v w p q = (refl, λ i. (determined p q i, v.1))
 
-pub put_bytes_settled : Settled 1 over.put_bytes.Kinds.ps over.put_bytes.Kinds.r over.put_bytes.Reads.Post
-put_bytes_settled κs a x y v w p q = (refl, λ i. (determined p q i, v.1))
+-- of values of any type, however it is cloned
+pub put_over_settled :
+    (T : RattleType) (laws : Laws T) (copy : IsCopy T) (clone : Ghosts T.Denot) (dict : Dict) →
+    Settled 3 (over.put_over.Kinds.ps T laws copy) (over.put_over.Kinds.r T laws copy)
+    (over.put_over.Reads.Post T laws copy clone dict)
+put_over_settled T laws copy clone dict κs a x y v w p q = (refl, λ i. (determined p q i, v.1))

@@ -1,4 +1,5 @@
 pub mod Order
 pub mod Again
+pub mod Bit
 pub mod Room
 pub mod Determined

@@ -1,54 +1,53 @@
--- A slice that may end early: past the end no word is put.
-use Prim.Native.Nat.{ℕ, zero, suc, ◌+◌, ◌-◌, ◌≤◌, min}
-use native.Mathlib.Nat.{add-zero, add-suc, suc-add}
-use native.Mathlib.Omega.{arith}
-use mathlib.Core.Path.{◌≡◌, refl, sym, ◌∙◌}
+-- A slice that may end early: past the end nothing is put.
+use Rattle.std.proofs.Common.{ℕ, zero, suc, ◌+◌, ◌-◌, ◌≤◌, ◌<◌, min, ◌≡◌, refl, sym, ◌∙◌, List, [], ◌∷◌, length, take, set, arith, length-set, length-take-le, append_assoc}
 use mathlib.Core.Logic.{⊎_elim}
-use mathlib.Core.List.{List, [], ◌∷◌}
-use lib.ListN.{length, get_or, set}
-use lib.Seq.{sets, set_out}
-use Rattle.words.specs.Fill.{fill_from}
+use borrow.Rule.Slice.PartMut.{put_mid}
+use lib.Seq.{sets, sets-eq, set_out}
+use Rattle.std.proofs.lemmas.List.Edits.{paste_none, paste_all}
+use Rattle.std.proofs.lemmas.Slice.{put_mid-paste}
 use Rattle.words.proofs.Basics.{lt_or_ge}
-use Rattle.words.proofs.Fill.{length_fill}
 
--- where the first n reach the end, the next d change nothing
-fill_past :
-    (from : ℕ) (f : ℕ → ℕ) (xs : List ℕ) (n d : ℕ) → length xs ≤ from + n → fill_from from f xs (n + d) ≡ fill_from from f xs n
-unfolding fill_from
-fill_past from f xs n zero h = rw add-zero
-fill_past from f xs n (suc d) h =
-    rw add-suc
-    (set_out (fill_from from f xs (n + d)) (from + (n + d)) (f (n + d)) (omega (arith, length_fill from f xs (n + d)))
-    ∙ fill_past from f xs n d h)
+module _ {A : Type 0} where
+  sets_past : (l vs : List A) (i : ℕ) → length l ≤ i → sets l i vs ≡ l
+  sets_past l [] i h = refl
+  sets_past l (v ∷ vs) i h =
+      let same : set l i v ≡ l = set_out l i v h in
+      rw same (sets_past l vs (suc i) (omega arith))
 
--- n words are put once k of them reach the end or are all
-fill_room :
-    (from : ℕ) (f : ℕ → ℕ) (xs : List ℕ) (k n : ℕ) → k ≤ n → min (length xs) (from + n) ≤ from + k →
-    fill_from from f xs k ≡ fill_from from f xs n
-fill_room from f xs k n h e =
-    let m : n ≡ k + (n - k) = omega arith in
-    ⊎_elim
-    (λ short. let s : n ≡ k = omega arith in rw s)
-    (λ end. rw m (sym (fill_past from f xs k (n - k) end)))
-    (lt_or_ge (from + k) (length xs))
+  -- the first k are all that there is room for
+  sets_room :
+      (l vs : List A) (i k : ℕ) → min (length l) (i + length vs) ≤ i + k → sets l i vs ≡ sets l i (take k vs)
+  sets_room l [] i zero h = refl
+  sets_room l [] i (suc k) h = refl
+  sets_room l (v ∷ vs) i zero h = sets_past l (v ∷ vs) i (omega arith)
+  sets_room l (v ∷ vs) i (suc k) h =
+      sets_room (set l i v) vs (suc i) k (omega (arith, length-set {A = A} l i v))
 
--- the first word, and then the others
-fill_first :
-    (from : ℕ) (f : ℕ → ℕ) (xs : List ℕ) (n : ℕ) →
-    fill_from (suc from) (λ k. f (suc k)) (set xs from (f 0)) n ≡ fill_from from f xs (suc n)
-unfolding fill_from
-fill_first from f xs zero = rw add-zero
-fill_first from f xs (suc n) = rw (fill_first from f xs n, suc-add, add-suc)
+  -- a copy of all of vs into the part that begins at `at`
+  pub copied_whole :
+      (l vs ys : List A) (at d : ℕ) → d ≡ length vs → at + d ≤ length l → ys ≡ vs → put_mid at d l ys ≡ sets l at vs
+  copied_whole l vs ys at d e h p =
+      put_mid-paste at d l ys vs d p refl e
+      ∙ paste_all l at vs d e
+      ∙ rw (← append_assoc, e) (sym (sets-eq vs l at (omega arith)))
 
-fill_sets : (from : ℕ) (xs ys : List ℕ) → fill_from from (λ k. get_or ys k 0) xs (length ys) ≡ sets xs from ys
-unfolding fill_from
-fill_sets from xs [] = refl
-fill_sets from xs (y ∷ ys) =
-    sym (fill_first from (λ k. get_or (y ∷ ys) k 0) xs (length ys)) ∙ fill_sets (suc from) (set xs from y) ys
-
--- all n words of ys are put once k of them reach the end or are all
-pub put_all :
-    (from : ℕ) (xs ys : List ℕ) (k n : ℕ) → length ys ≡ n → k ≤ n → min (length xs) (from + n) ≤ from + k →
-    fill_from from (λ j. get_or ys j 0) xs k ≡ sets xs from ys
-put_all from xs ys k n e h r =
-    fill_room from (λ j. get_or ys j 0) xs k n h r ∙ rw (← e) (fill_sets from xs ys)
+  -- and of the first k, as many as there is room for, from n on
+  pub copied_over :
+      (l vs ys : List A) (at n k d : ℕ) →
+      n ≡ min at (length l) →
+      k ≡ min (length vs) (length l - n) →
+      d ≡ k →
+      ys ≡ take k vs →
+      put_mid n d l ys ≡ sets l at vs
+  copied_over l vs ys at n k d en ek ed p =
+      let long : length (take k vs) ≡ k = length-take-le k vs (omega arith) in
+      ⊎_elim
+      (λ (inside : at < length l).
+      let first : n ≡ at = omega arith in
+      rw first (copied_whole l (take k vs) ys at d (ed ∙ sym long) (omega arith) p)
+      ∙ sym (sets_room l vs at k (omega arith)))
+      (λ (past : length l ≤ at).
+      let none : k ≡ 0 = omega arith in
+      put_mid-paste n d l ys (take k vs) k p (sym ed) (sym long)
+      ∙ rw none (sym (paste_none l n (take 0 vs)) ∙ sym (sets_past l vs at past)))
+      (lt_or_ge at (length l))

@@ -7,12 +7,14 @@ use memory::ram::{put, word_at};
 use words::remembered::Remembered;
 use words::settings::{Area, Settings};
 
+#[tactic(auto, unfolding(crate::specs::Setup::area_from))]
 fn area_from(w: u16) -> Area
     ensures { result ≡ area_from w }
 {
     if w == 0 { Area::A } else { Area::B }
 }
 
+#[tactic(auto, unfolding(crate::specs::Setup::settings_from))]
 pub fn settings_from(xs: &[u16]) -> Settings
     ensures { result ≡ settings_from xs.now }
 {
@@ -43,6 +45,7 @@ pub fn settings_from(xs: &[u16]) -> Settings
     }
 }
 
+#[tactic(auto, unfolding(crate::specs::Setup::remembered_from))]
 pub fn remembered_from(xs: &[u16]) -> Remembered
     ensures { result ≡ remembered_from xs.now }
 {
@@ -53,6 +56,7 @@ pub fn remembered_from(xs: &[u16]) -> Remembered
     }
 }
 
+#[tactic(auto, using(crate::proofs::Order::fields_put), unfolding(crate::specs::Setup::remembered_words))]
 pub fn put_remembered(xs: &mut [u16], m: Remembered)
     ensures { xs.new ≡ over xs.old (remembered_words m) }
 {

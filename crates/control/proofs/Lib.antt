@@ -1,7 +1,5 @@
 pub mod Runs
 pub mod GoesOn
-pub mod Steps
-pub mod Started
 pub mod Kept
 pub mod Ends
 pub mod Used

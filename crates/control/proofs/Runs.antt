@@ -1,27 +1,21 @@
 -- What runs come to: added up, with a bigger budget, ended, and how many steps they took.
-use Prim.Native.Nat.{ℕ, zero, suc, ◌+◌, ◌-◌, ◌≤◌, ◌<◌}
+use Prim.Native.Nat.{ℕ, zero, suc, ◌+◌, ◌-◌, ◌≤◌}
 use native.Mathlib.Omega.{arith}
 use native.Mathlib.Nat.{add-zero, add-suc}
 use native.Mathlib.Numerals.{add-one}
 use mathlib.Core.Path.{◌≡◌, refl, sym, ap, ◌∙◌}
 use mathlib.Core.Logic.{⊎_elim}
-use mathlib.Core.Bool.{Bool, true, false, ◌&&◌, and-true, true≢false}
-use lib.Dec.{ltb}
-use borrow.Author.Tests.{ltb-true, ltb-false}
+use mathlib.Core.Bool.{Bool, true, false, true≢false}
 use mathlib.Core.List.{List}
 use Rattle.words.specs.Bits.{bit_of}
-use Rattle.words.proofs.Basics.{yes_or_no, not_both, and_left, and_right}
+use Rattle.words.proofs.Basics.{yes_or_no, not_both}
 use Rattle.control.specs.declared.machine.Machine.{Machine}
 use Rattle.control.specs.declared.machine.End.{End}
 use Rattle.control.specs.declared.machine.End.TheVariants.{Budget, Halt, Bad, NoOutcome, Refused}
-use Rattle.control.specs.declared.machine.Stand.{Stand}
 use Rattle.control.specs.declared.run.Ran.{Ran}
 use Rattle.control.specs.Machine.{is_going, is_carried_out}
 use Rattle.control.specs.Step.{step_of}
 use Rattle.control.specs.Run.{begun, stepped, advanced, run_from, run_for}
-
-budget_spent : (turns budget : ℕ) → (ltb turns budget && true) ≡ false → budget ≤ turns
-budget_spent turns budget e = ltb-false turns budget (sym (and-true (ltb turns budget)) ∙ e)
 
 add_most : (n : ℕ) (b : Bool) → n + bit_of b ≤ n + 1
 add_most n true = omega arith
@@ -34,21 +28,6 @@ going_counts Halt n g = refl
 going_counts Bad n g = absurd (true≢false (sym g))
 going_counts NoOutcome n g = absurd (true≢false (sym g))
 going_counts (Refused k) n g = absurd (true≢false (sym g))
-
--- a turn of the loop: the budget is not used up, and a step more fits
-pub turns_left : (turns budget : ℕ) (g b : Bool) → b ≡ (ltb turns budget && g) → b ≡ true → turns < budget
-turns_left turns budget g b e y = ltb-true turns budget (and_left (ltb turns budget) g (sym e ∙ y))
-
-pub begun_steps : (m : Machine) (r : Ran) → r ≡ begun m → r.steps ≤ 0
-unfolding begun
-begun_steps m r e = rw e (omega arith)
-
-pub steps_turn :
-    (r next : Ran) (s : Stand) (turns : ℕ) → r.steps ≤ turns → next ≡ stepped r s → next.steps ≤ turns + 1
-unfolding stepped
-steps_turn r next s turns h e =
-    let one = add_most r.steps (is_carried_out s.end) in
-    rw e (omega (arith, one, h))
 
 module _ (ram trace : List ℕ) where
   -- one step more
@@ -95,55 +74,6 @@ module _ (ram trace : List ℕ) where
       let e : n + (m - n) ≡ m = omega arith in
       rw e at (run_bigger r n (m - n) g)
 
-  -- ---- the loop of `run`, from what its parts came to
-
-  pub run_turn :
-      (begin r next : Ran) (s : Stand) (turns budget : ℕ) (g b : Bool) →
-      r ≡ run_from ram trace begin turns →
-      g ≡ is_going r.end →
-      b ≡ (ltb turns budget && g) →
-      b ≡ true →
-      s ≡ step_of ram trace r.machine →
-      next ≡ stepped r s →
-      next ≡ run_from ram trace begin (turns + 1)
-  run_turn begin r next s turns budget g b er eg eb y es en =
-      let going : is_going r.end ≡ true = sym eg ∙ and_right (ltb turns budget) g (sym eb ∙ y) in
-      let on : stepped r s ≡ advanced ram trace r = rw es (sym (advance_going r going)) in
-      en ∙ on ∙ ap (advanced ram trace) er ∙ sym (run_more begin turns)
-
-  -- where the loop ends: the budget is used up, or the run has ended
-  pub run_done :
-      (begin r : Ran) (turns budget : ℕ) (g b : Bool) →
-      turns ≤ budget →
-      r ≡ run_from ram trace begin turns →
-      g ≡ is_going r.end →
-      b ≡ (ltb turns budget && g) →
-      b ≡ false →
-      r ≡ run_from ram trace begin budget
-  run_done begin r turns budget g b h er eg eb n =
-      ⊎_elim
-      (λ (y : g ≡ true).
-      let spent = budget_spent turns budget (rw y at (sym eb ∙ n)) in
-      let e : turns ≡ budget = omega arith in
-      rw e at er)
-      (λ (f : g ≡ false).
-      let ended : is_going (run_from ram trace begin turns).end ≡ false = rw er at (sym eg ∙ f) in
-      er ∙ sym (run_at_least begin turns budget h ended))
-      (yes_or_no g)
-
-  -- and so the whole of it
-  pub run_whole :
-      (m : Machine) (begin r : Ran) (turns budget : ℕ) (g b : Bool) →
-      begin ≡ begun m →
-      turns ≤ budget →
-      r ≡ run_from ram trace begin turns →
-      g ≡ is_going r.end →
-      b ≡ (ltb turns budget && g) →
-      b ≡ false →
-      r ≡ run_for ram trace m budget
-  run_whole m begin r turns budget g b e h er eg eb n =
-      rw e at (run_done begin r turns budget g b h er eg eb n)
-
   -- ---- how many steps
 
   -- no step takes more than one
@@ -163,6 +93,27 @@ module _ (ram trace : List ℕ) where
       let before = steps_most r n in
       let one = advance_steps (run_from ram trace r n) in
       omega (arith, before, one)
+
+  -- ---- the loop of `run`: where n turns lead
+
+  pub reached_steps : (m : Machine) (r : Ran) (n : ℕ) → r ≡ run_from ram trace (begun m) n → r.steps ≤ n
+  unfolding begun
+  reached_steps m r n e = let most = steps_most (begun m) n in rw e (omega arith)
+
+  pub reached_next :
+      (m : Machine) (r : Ran) (n : ℕ) →
+      r ≡ run_from ram trace (begun m) n →
+      is_going r.end ≡ true →
+      stepped r (step_of ram trace r.machine) ≡ run_from ram trace (begun m) (n + 1)
+  reached_next m r n e g = sym (advance_going r g) ∙ ap (advanced ram trace) e ∙ sym (run_more (begun m) n)
+
+  pub reached_end :
+      (m : Machine) (r : Ran) (n budget : ℕ) →
+      r ≡ run_from ram trace (begun m) n →
+      n ≤ budget →
+      is_going r.end ≡ false →
+      r ≡ run_for ram trace m budget
+  reached_end m r n budget e h g = e ∙ sym (run_at_least (begun m) n budget h (rw e at g))
 
   -- ---- where the answer is "budget", it is the budget
 

@@ -3,6 +3,7 @@
 
 #![tactic(auto)]
 
+mod fetched;
 pub mod machine;
 pub mod run;
 pub mod start;

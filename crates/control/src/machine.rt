@@ -1,14 +1,14 @@
-// The machine, by value, and how an instruction moves it.
-ghost use Rattle.std.specs.Prelude.{◌≡◌, ◌+◌, ◌<◌, ◌≤◌, get_or};
-ghost use Rattle.control.specs.Machine.{moved_to, moved_on, called_to, returned_from, flagged_by, heard_of, machine_at, standing, is_going, is_carried_out, refusal_in, end_kind};
+// The machine, by value, what a step leaves of it, and how a run ends.
+ghost use Rattle.std.specs.Prelude.{◌≡◌};
+ghost use Rattle.control.specs.Machine.{machine_at, standing, going_on, is_going, is_carried_out, refusal_in, end_kind};
 
-use control_words::condition::{Outcome, no_outcome};
-use control_words::flags::flags_after;
+use control_words::condition::Outcome;
 
-// The addresses to return to, the first `depth` of them in use.
+// The addresses to return to, the first `depth` of them in use. No type holds the two together, since `go_on` takes any
+// machine, also one whose depth is over four.
 pub type Calls = [usize; 4];
 
-#[derive(Clone, Copy)]
+#[derive(Clone, Copy, Debug, Default, PartialEq, Eq)]
 pub struct Machine {
     pub pointer: usize,
     pub flags: u16,
@@ -20,7 +20,7 @@ pub struct Machine {
 }
 
 // How a run ends. One that goes on is ended by its budget alone.
-#[derive(Clone, Copy)]
+#[derive(Clone, Copy, Debug, PartialEq, Eq)]
 pub enum End {
     Budget,
     Halt,
@@ -30,133 +30,57 @@ pub enum End {
 }
 
 // What a step leaves.
-#[derive(Clone, Copy)]
+#[derive(Clone, Copy, Debug, PartialEq, Eq)]
 pub struct Stand {
     pub end: End,
     pub machine: Machine,
 }
 
-pub(crate) fn moved_to(m: Machine, at: usize) -> Machine
-    ensures { result ≡ moved_to m at }
-{
-    let mut n = m;
-    n.pointer = at;
-    n
-}
+impl Machine {
+    pub(crate) fn ends(self, end: End) -> Stand
+        ensures { result ≡ standing end self }
+    {
+        Stand { end, machine: self }
+    }
 
-pub(crate) fn moved_on(m: Machine) -> Machine
-    requires { m.pointer + 2 < 18446744073709551616 }
-    ensures { result ≡ moved_on m }
-{
-    moved_to(m, m.pointer + 2)
-}
-
-pub(crate) fn called_to(m: Machine, at: usize) -> Machine
-    requires { (m.pointer + 2 < 18446744073709551616) × (m.depth < 4) }
-    ensures { result ≡ called_to m at }
-{
-    let depth = m.depth;
-    let mut n = m;
-    n.calls[depth] = m.pointer + 2;
-    n.depth = depth + 1;
-    n.pointer = at;
-    n
-}
-
-// An address to return to, 0 past the fourth.
-fn call_at(calls: Calls, k: usize) -> usize
-    ensures { result ≡ get_or calls k 0 }
-{
-    if k < 4 { calls[k] } else { 0 }
-}
-
-pub(crate) fn returned_from(m: Machine) -> Machine
-    requires { 1 ≤ m.depth }
-    ensures { result ≡ returned_from m }
-{
-    let calls = m.calls;
-    let depth = m.depth - 1;
-    let mut n = m;
-    n.pointer = call_at(calls, depth);
-    n.depth = depth;
-    n
-}
-
-pub(crate) fn flagged_by(m: Machine, parameter: u16) -> Machine
-    requires { m.pointer + 2 < 18446744073709551616 }
-    ensures { result ≡ flagged_by m parameter }
-{
-    let mut n = m;
-    n.pointer = m.pointer + 2;
-    n.flags = flags_after(m.flags, parameter);
-    n
-}
-
-pub(crate) fn heard_of(m: Machine, outcome: Outcome, place: usize) -> Machine
-    requires { m.pointer + 2 < 18446744073709551616 }
-    ensures { result ≡ heard_of m outcome place }
-{
-    let mut n = m;
-    n.pointer = m.pointer + 2;
-    n.last = outcome;
-    n.place = place;
-    n
-}
-
-pub fn machine_at(start: usize, flags: u16) -> Machine
-    ensures { result ≡ machine_at start flags }
-{
-    let last = no_outcome();
-    Machine {
-        pointer: start,
-        flags,
-        last,
-        depth: 0,
-        calls: [0; 4],
-        place: 0,
+    pub(crate) fn goes_on(self) -> Stand
+        ensures { result ≡ going_on self }
+    {
+        self.ends(End::Budget)
     }
 }
 
-pub(crate) fn standing_as(end: End, m: Machine) -> Stand
-    ensures { result ≡ standing end m }
+#[tactic(auto, unfolding(crate::specs::Machine::machine_at, control_words::specs::Condition::no_outcome))]
+pub fn machine_at(start: usize, flags: u16) -> Machine
+    ensures { result ≡ machine_at start flags }
 {
-    Stand { end, machine: m }
+    Machine {
+        pointer: start,
+        flags,
+        ..Machine::default()
+    }
 }
 
 pub fn is_going(end: End) -> bool
     ensures { result ≡ is_going end }
 {
-    match end {
-        End::Budget => true,
-        End::Halt => false,
-        End::Bad => false,
-        End::NoOutcome => false,
-        End::Refused(_n) => false,
-    }
+    matches!(end, End::Budget)
 }
 
 pub fn is_carried_out(end: End) -> bool
     ensures { result ≡ is_carried_out end }
 {
-    match end {
-        End::Budget => true,
-        End::Halt => true,
-        End::Bad => false,
-        End::NoOutcome => false,
-        End::Refused(_n) => false,
-    }
+    matches!(end, End::Budget | End::Halt)
 }
 
 // The number that refuses, or 0.
 pub fn refusal_in(end: End) -> u16
     ensures { result ≡ refusal_in end }
 {
-    match end {
-        End::Budget => 0,
-        End::Halt => 0,
-        End::Bad => 0,
-        End::NoOutcome => 0,
-        End::Refused(n) => n,
+    if let End::Refused(number) = end {
+        number
+    } else {
+        0
     }
 }
 
@@ -169,6 +93,6 @@ pub fn end_kind(end: End) -> u16
         End::Bad => 2,
         End::NoOutcome => 3,
         End::Budget => 4,
-        End::Refused(_n) => 0,
+        End::Refused(_) => 0,
     }
 }

@@ -4,24 +4,20 @@ ghost use Rattle.memory.specs.Map.{bit_set};
 ghost use Rattle.control_words.specs.Condition.{no_outcome, condition_holds, condition_met, is_conditional, is_due};
 
 use crate::opcode::Operation;
-use words::choose::{either, no};
 
 // What the last message tells the conditions; all are no before the first.
-#[derive(Clone, Copy)]
+#[derive(Clone, Copy, Debug, Default, PartialEq, Eq)]
 pub struct Outcome {
     pub no_status: bool,
     pub other_fault: bool,
     pub good_transfer: bool,
 }
 
+#[tactic(auto, unfolding(crate::specs::Condition::no_outcome))]
 pub fn no_outcome() -> Outcome
     ensures { result ≡ no_outcome }
 {
-    Outcome {
-        no_status: false,
-        other_fault: false,
-        good_transfer: false,
-    }
+    Outcome::default()
 }
 
 fn flag(flags: u16, n: u16) -> bool
@@ -31,51 +27,39 @@ fn flag(flags: u16, n: u16) -> bool
     (flags >> n) % 2 == 1
 }
 
+#[tactic(auto, unfolding(crate::specs::Condition::condition_holds))]
 fn condition_holds(code: u16, flags: u16, last: Outcome) -> bool
     ensures { result ≡ condition_holds code flags last }
 {
-    if code < 8 {
-        return flag(flags, code);
+    match code {
+        0..=7 => flag(flags, code),
+        0x8 => last.no_status,
+        0x9 => last.other_fault,
+        0xA => last.good_transfer,
+        0xC => last.no_status || last.other_fault,
+        0xF => true,
+        _ => false,
     }
-    if code == 0x8 {
-        return last.no_status;
-    }
-    if code == 0x9 {
-        return last.other_fault;
-    }
-    if code == 0xA {
-        return last.good_transfer;
-    }
-    if code == 0xC {
-        return either(last.no_status, last.other_fault);
-    }
-    code == 0xF
 }
 
+#[tactic(auto, unfolding(crate::specs::Condition::condition_met))]
 fn condition_met(word: u16, flags: u16, last: Outcome) -> bool
     ensures { result ≡ condition_met word flags last }
 {
     let holds = condition_holds(word % 16, flags, last);
-    if word / 16 % 2 == 1 { no(holds) } else { holds }
+    if word / 16 % 2 == 1 { !holds } else { holds }
 }
 
-fn conditional(o: Operation) -> bool
+fn is_conditional(o: Operation) -> bool
     ensures { result ≡ is_conditional o }
 {
-    match o {
-        Operation::Execute => true,
-        Operation::Jump => true,
-        Operation::Call => true,
-        Operation::Return => true,
-        Operation::Halt => true,
-        Operation::Flag => false,
-        Operation::Unknown => false,
-    }
+    !matches!(o, Operation::Flag | Operation::Unknown)
 }
 
 // Whether an instruction is executed, or else passed over.
+#[tactic(auto, unfolding(crate::specs::Condition::is_due))]
 pub fn due(o: Operation, word: u16, flags: u16, last: Outcome) -> bool
     ensures { result ≡ is_due o word flags last }
 {
-    either(no(conditional(o)), condition_met(word, flags, last))
+    !is_conditional(o) || condition_met(word, flags, last)
 }

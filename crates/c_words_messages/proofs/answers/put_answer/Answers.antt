@@ -1,6 +1,7 @@
 -- `put_answer` meets its contract: nine words in a row.
 use Rattle.c_words_messages.specs.Answers.{answer_words}
 use Rattle.c_words.proofs.Order.{fields_put}
+use Rattle.c_words.proofs.Bit.{from_bool-is}
 use Rattle.c_words_messages.proofs.answers.put_answer.Goals as goal
 
 pub returns : goal.returns
@@ -10,6 +11,7 @@ returns c =
       fields_put,
       c.put_four-2.ensures,
       c.put_four.ensures,
-      c.bit_of.ensures.0,
       c.put.ensures,
+      c.from.ensures,
+      from_bool-is,
     )
