@@ -2,27 +2,11 @@
 -- Each line speaks of the contract as the checker reads it (`Reads.Post`), so that none can drift from its function.
 use mathlib.Core.Path.{refl}
 use Rattle.words.proofs.Settled.{determined, Settled}
-use Rattle.words.proofs.choose
 use Rattle.words.proofs.command
 use Rattle.words.proofs.bits
 use Rattle.words.proofs.refusal
 use Rattle.words.proofs.remembered
 use Rattle.words.proofs.settings
-
-pub both_settled : Settled 0 choose.both.Kinds.ps choose.both.Kinds.r choose.both.Reads.Post
-both_settled κs a x y v w p q = (determined p q, refl)
-
-pub either_settled : Settled 0 choose.either.Kinds.ps choose.either.Kinds.r choose.either.Reads.Post
-either_settled κs a x y v w p q = (determined p q, refl)
-
-pub no_settled : Settled 0 choose.no.Kinds.ps choose.no.Kinds.r choose.no.Reads.Post
-no_settled κs a x y v w p q = (determined p q, refl)
-
-pub pick_settled : Settled 0 choose.pick.Kinds.ps choose.pick.Kinds.r choose.pick.Reads.Post
-pick_settled κs a x y v w p q = (determined p q, refl)
-
-pub smaller_settled : Settled 0 choose.smaller.Kinds.ps choose.smaller.Kinds.r choose.smaller.Reads.Post
-smaller_settled κs a x y v w p q = (determined p q, refl)
 
 pub address_settled : Settled 0 command.address.Kinds.ps command.address.Kinds.r command.address.Reads.Post
 address_settled κs a x y v w p q = (determined p q, refl)
@@ -62,9 +46,6 @@ has_broadcast_cells_settled κs a x y v w p q = (determined p q, refl)
 
 pub remembering_settled : Settled 0 remembered.remembering.Kinds.ps remembered.remembering.Kinds.r remembered.remembering.Reads.Post
 remembering_settled κs a x y v w p q = (determined p q, refl)
-
-pub bit_of_settled : Settled 0 bits.bit_of.Kinds.ps bits.bit_of.Kinds.r bits.bit_of.Reads.Post
-bit_of_settled κs a x y v w p q = (determined p.0 q.0, refl)
 
 pub word_of_settled : Settled 0 bits.word_of.Kinds.ps bits.word_of.Kinds.r bits.word_of.Reads.Post
 word_of_settled κs a x y v w p q = (determined p q, refl)

@@ -1,12 +1,6 @@
-// A yes or no as a number, and a word from its bits.
-ghost use Rattle.std.specs.Prelude.{◌≡◌, ◌≤◌};
-ghost use Rattle.words.specs.Bits.{bit_of, word_of};
-
-pub fn bit_of(b: bool) -> u16
-    ensures { (result ≡ bit_of b) × (result ≤ 1) }
-{
-    u16::from(b)
-}
+// A word from its bits.
+ghost use Rattle.std.specs.Prelude.{◌≡◌};
+ghost use Rattle.words.specs.Bits.{word_of};
 
 // The bits of a word, from bit 15 down to bit 0.
 pub type Bits = [bool; 16];

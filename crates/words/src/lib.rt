@@ -4,7 +4,6 @@
 #![tactic(auto)]
 
 pub mod bits;
-pub mod choose;
 pub mod command;
 pub mod number;
 pub mod refusal;
