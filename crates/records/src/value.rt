@@ -7,7 +7,8 @@ use crate::transfer::breaks_transfer;
 // The words of a record value.
 pub type Words = [u16; 32];
 
-// A message record as a value. It can hold what breaks the layout, since the writer refuses such a value.
+// A message record as a value. It can hold what breaks the layout, since the writer refuses such a value: `count` is a
+// number of the record, up to 33 and over, and no length of `words`.
 #[derive(Clone, Copy, Debug, Default, PartialEq, Eq)]
 pub struct Record {
     pub command: u16,
