@@ -7,7 +7,7 @@ use records::value::{Record, keeps_layout};
 use words::number::RECORD_LAYOUT;
 
 // What writing gives: the number, and the bytes where it is 0.
-#[derive(Clone, Copy)]
+#[derive(Clone, Copy, Debug, PartialEq, Eq)]
 pub struct Written {
     pub number: u16,
     pub bytes: [u8; 80],

@@ -9,7 +9,7 @@ use records::value::zero_value;
 use words::number::{RECORD_LAYOUT, RECORD_LENGTH};
 
 // What reading gives: the number, and the value where it is 0.
-#[derive(Clone, Copy)]
+#[derive(Clone, Copy, Debug, PartialEq, Eq)]
 pub struct LongReading {
     pub number: u16,
     pub value: LongRecord,

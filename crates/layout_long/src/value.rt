@@ -4,7 +4,7 @@ ghost use Rattle.layout_long.specs.Long.{zero_long};
 
 use records::value::{Record, zero_value};
 
-#[derive(Clone, Copy)]
+#[derive(Clone, Copy, Debug, PartialEq, Eq)]
 pub struct LongRecord {
     // the record of 80 bytes, with the time tag's lower half
     pub old: Record,

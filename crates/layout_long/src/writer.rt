@@ -9,7 +9,7 @@ use layout::writer::{put_word, write};
 use words::number::RECORD_LAYOUT;
 
 // What writing gives: the number, and the bytes where it is 0.
-#[derive(Clone, Copy)]
+#[derive(Clone, Copy, Debug, PartialEq, Eq)]
 pub struct LongWritten {
     pub number: u16,
     pub bytes: [u8; 96],
