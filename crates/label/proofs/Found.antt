@@ -3,8 +3,8 @@ use Prim.Native.Nat.{ℕ, ◌≤◌}
 use mathlib.Core.Path.{◌≡◌, sym, ◌∙◌}
 use mathlib.Core.Bool.{true, false}
 use mathlib.Core.List.{List}
-use lib.ListN.{length, replicate, length-replicate}
-use lib.Seq.{sets}
+use lib.ListN.{length, take, replicate, length-replicate}
+use lib.Seq.{sets, length-sets, length-take-le}
 use borrow.Author.Tests.{ne_eqb}
 use Rattle.words.specs.declared.settings.Settings.{Settings}
 use Rattle.memory.specs.Map.{ram_refused}
@@ -14,7 +14,7 @@ use Rattle.label.specs.declared.one.CellLabel.{CellLabel}
 use Rattle.label.specs.Listing.{front}
 use Rattle.label.specs.Label.{takes_part, meeting_cells, cell_refusal, sharers_of, counted_of, cell_answer, cell_label}
 use Rattle.label.proofs.Meeting.{facts_part}
-use Rattle.label.proofs.Turns.{front_back}
+use Rattle.label.proofs.Turns.{front_back, front_take}
 use Rattle.label.proofs.Answers.{accepted_exactly, count_most}
 
 module _ (ram : List ℕ) (s : Settings) (cell n : ℕ) (e : n ≡ cell_refusal ram s cell) where
@@ -53,7 +53,19 @@ module _ (ram : List ℕ) (s : Settings) (cell : ℕ) where
       unfolding counted_of
       counted_front = rw (e, p, front_back (replicate 89 0) (sharers_of ram s cell) (rw length-replicate sharers_most))
 
+      pub counted_take : take c.count numbers ≡ sharers_of ram s cell
+      counted_take = sym (front_take numbers c.count (rw (p, length-sets, length-replicate) counted_most)) ∙ counted_front
+
+      pub take_fits : c.count ≤ length numbers
+      take_fits = rw (p, length-sets, length-replicate) counted_most
+
+      pub take_long : c.count ≡ length (take c.count numbers)
+      take_long = sym (length-take-le c.count numbers take_fits)
+
+      pub take_most : length (take c.count numbers) ≤ 89
+      take_most = rw counted_take sharers_most
+
       pub counted_label :
-          (l : CellLabel) → l ≡ cell_answer c.number (front numbers c.count) → l ≡ cell_label ram s cell
+          (l : CellLabel) → l ≡ cell_answer c.number (take c.count numbers) → l ≡ cell_label ram s cell
       unfolding counted_of cell_label
-      counted_label l q = q ∙ rw (counted_front, e)
+      counted_label l q = q ∙ rw (counted_take, e)

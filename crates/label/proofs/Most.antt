@@ -7,7 +7,7 @@ use mathlib.Core.Path.{◌≡◌, refl}
 use mathlib.Core.Logic.{⊎_elim}
 use mathlib.Core.Bool.{Bool, true, false, not, cond, ◌&&◌, and-true}
 use mathlib.Core.List.{List, [], ◌∷◌}
-use lib.ListN.{length, get_or, length-append, length-map}
+use lib.ListN.{length, length-append, length-map}
 use lib.Dec.{ltb, leb, eqb}
 use borrow.Author.Tests.{le-leb, eq-eqb, ne_eqb}
 use Rattle.words.specs.declared.settings.Settings.{Settings}
@@ -17,7 +17,8 @@ use Rattle.cells.specs.Cell.{sound_cell}
 use Rattle.area.specs.Area.{is_read, is_unsound, cell_numbered}
 use Rattle.area.proofs.Listed.{read_listed}
 use Rattle.label.specs.Listing.{above, passing, pairs_with, pairs_below}
-use Rattle.label_spans.specs.Span.{read_in_vain}
+use Rattle.label_spans.specs.declared.span.Span.{Span}
+use Rattle.label_spans.specs.Span.{span_at, read_in_vain}
 use Rattle.label.specs.Label.{takes_part, cells_meet, meeting_cells, meeting_pairs, unsound_cells}
 use Rattle.label.proofs.Turns.{passing_yes, passing_same, passing_none}
 use Rattle.label.proofs.Meeting.{part_facts, part_below, met_facts}
@@ -163,6 +164,6 @@ listed_fits t n end most count e h l m =
     let room = place_before t n end l m in
     omega arith
 
-pub vain_most : (s : Settings) (ends : List ℕ) → length (passing (read_in_vain s ends) 96) ≤ 90
+pub vain_most : (s : Settings) (spans : List Span) → length (passing (read_in_vain s spans) 96) ≤ 90
 unfolding read_in_vain
-vain_most s ends = ninety_most s (read_in_vain s ends) (λ k. and_left (is_read s k) (eqb (get_or ends k 0) 0))
+vain_most s spans = ninety_most s (read_in_vain s spans) (λ k. and_left (is_read s k) (eqb (span_at spans k).end 0))

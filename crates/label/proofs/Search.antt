@@ -1,12 +1,13 @@
 -- The search by one window, kind by kind, finds the cells that meet.
-use Prim.Native.Nat.{ℕ, zero, suc, ◌+◌, ◌*◌, ◌%◌, ◌<◌, ◌≤◌}
-use native.Mathlib.Nat.{add-zero, add-suc}
+use Prim.Native.Nat.{ℕ, zero, suc, ◌+◌, ◌-◌, ◌*◌, ◌%◌, ◌<◌, ◌≤◌}
+use native.Mathlib.Nat.{add-zero, add-suc, zero-add}
 use native.Mathlib.Omega.{arith}
 use mathlib.Core.Path.{◌≡◌, refl, sym, ap, ◌∙◌}
 use mathlib.Core.Bool.{Bool, true, false, not, cond, ◌&&◌, and-false, and-true}
 use mathlib.Core.List.{List, [], ◌∷◌, ◌++◌, map, map-append, append-nil, append_assoc}
 use lib.ListN.{length, length-append, length-map}
-use lib.Seq.{sets}
+use lib.Seq.{sets, length-sets}
+use borrow.Rule.Slice.PartMut.{mid_of, put_mid, mid_len}
 use lib.Dec.{eqb, leb}
 use borrow.Author.Tests.{lt-ltb, le-ltb, le-leb}
 use Rattle.words.specs.declared.settings.Settings.{Settings}
@@ -27,7 +28,7 @@ use Rattle.label.specs.Listing.{passing}
 use Rattle.label.specs.Label.{takes_part, cells_meet, meeting_cells}
 use Rattle.label.specs.Search.{shares_window, shares_at, sharers_of_kind}
 use Rattle.label.proofs.Turns.{passing_no, passing_none, passing_same, Run}
-use Rattle.label.proofs.Stored.{run_append}
+use Rattle.label.proofs.Stored.{run_append, run_tail}
 use Rattle.label.proofs.Most.{place_before, meeting_most}
 
 -- ---- numbers that pass, in two parts
@@ -69,10 +70,10 @@ module _ (ram : List ℕ) (s : Settings) (stack own : Window) (cell : ℕ) (kind
 
   -- there is room for one that is found
   pub kind_fits :
-      (sub used at most : ℕ) → at ≡ used + length (passing here sub) →
-      used + length (sharers_of_kind ram s stack own cell kind) ≤ most → sub < 32 → here sub ≡ true → at < most
+      (sub count most : ℕ) → count ≡ 0 + length (passing here sub) →
+      length (sharers_of_kind ram s stack own cell kind) ≤ most → sub < 32 → here sub ≡ true → count < most
   unfolding sharers_of_kind
-  kind_fits sub used at most e h l y =
+  kind_fits sub count most e h l y =
       let room = place_before here sub 32 l y in
       let long = length-map (passing here 32) (cell_number kind) in
       omega arith
@@ -83,13 +84,13 @@ module _ (ram : List ℕ) (s : Settings) (stack own : Window) (cell : ℕ) (kind
   last_shares_none = passing_no here 31 refl
 
   pub kind_done :
-      (sub used : ℕ) (room now : List ℕ) (at : ℕ) → sub ≡ 31 → Run (cell_number kind) here sub used room now at →
-      (now ≡ sets room used (sharers_of_kind ram s stack own cell kind))
-      × (at ≡ used + length (sharers_of_kind ram s stack own cell kind))
+      (sub : ℕ) (room now : List ℕ) (count : ℕ) → sub ≡ 31 → Run (cell_number kind) here sub 0 room now count →
+      (now ≡ sets room 0 (sharers_of_kind ram s stack own cell kind))
+      × (count ≡ length (sharers_of_kind ram s stack own cell kind))
   unfolding sharers_of_kind
-  kind_done sub used room now at e run = (
+  kind_done sub room now count e run = (
     rw last_shares_none (rw e at run.words),
-    rw (length-map, last_shares_none) (rw e at run.place),
+    rw (length-map, last_shares_none) (rw (e, zero-add) at run.place),
   )
 
 -- ---- the cells that meet are those of the three kinds
@@ -201,27 +202,49 @@ module _ (ram : List ℕ) (s : Settings) (cell : ℕ) where
         rw (kinds_all b, length-append, length-append) in
         omega (arith, meeting_most ram s cell)
 
-    -- one kind after the other
-    pub found_low :
-        (n₀ n₁ n₂ : List ℕ) (a b : ℕ) → has_broadcast_cells s ≡ false →
-        n₁ ≡ sets n₀ 0 (found Receive) → a ≡ 0 + length (found Receive) →
-        n₂ ≡ sets n₁ a (found Transmit) → b ≡ a + length (found Transmit) →
-        (n₂ ≡ sets n₀ 0 (meeting_cells ram s cell)) × (b ≡ length (meeting_cells ram s cell))
-    found_low n₀ n₁ n₂ a b off p q r t = (
-      rw (kinds_low off, r, q, p) (run_append n₀ (found Receive) (found Transmit) 0),
-      rw (kinds_low off, length-append) (omega arith),
-    )
+    -- one kind after the other, each into the room that is left
+    module _ (n₀ n₁ : List ℕ) (a : ℕ) (long : length n₀ ≡ 89) (p : n₁ ≡ sets n₀ 0 (found Receive)) (q : a ≡ length (found Receive)) where
+      abbrev room₁ : List ℕ
+      room₁ = mid_of a (89 - a) n₁
 
-    pub found_all :
-        (n₀ n₁ n₂ n₃ : List ℕ) (a b c : ℕ) → has_broadcast_cells s ≡ true →
-        n₁ ≡ sets n₀ 0 (found Receive) → a ≡ 0 + length (found Receive) →
-        n₂ ≡ sets n₁ a (found Transmit) → b ≡ a + length (found Transmit) →
-        n₃ ≡ sets n₂ b (found Broadcast) → c ≡ b + length (found Broadcast) →
-        (n₃ ≡ sets n₀ 0 (meeting_cells ram s cell)) × (c ≡ length (meeting_cells ram s cell))
-    found_all n₀ n₁ n₂ n₃ a b c on p q r t u v =
-        let two : n₂ ≡ sets n₀ 0 (found Receive ++ found Transmit) =
-        rw (r, q, p) (run_append n₀ (found Receive) (found Transmit) 0) in
-        let long : b ≡ 0 + length (found Receive ++ found Transmit) = rw length-append (omega arith) in (
-          rw (kinds_all on, u, long, two) (run_append n₀ (found Receive ++ found Transmit) (found Broadcast) 0),
-          rw (kinds_all on, length-append, length-append) (omega arith),
+      same₁ : length n₁ ≡ 89
+      same₁ = rw (p, length-sets) long
+
+      pub transmit_room : length (found Transmit) ≤ length room₁
+      transmit_room = rw (mid_len a 89 n₁ (omega (arith, same₁))) (omega (arith, low_fit))
+
+      module _ (now₁ : List ℕ) (b : ℕ) (r : now₁ ≡ sets room₁ 0 (found Transmit)) (t : b ≡ length (found Transmit)) where
+        abbrev n₂ : List ℕ
+        n₂ = put_mid a (89 - a) n₁ now₁
+
+        abbrev room₂ : List ℕ
+        room₂ = mid_of (a + b) (89 - (a + b)) n₂
+
+        two : n₂ ≡ sets n₀ 0 (found Receive ++ found Transmit)
+        two =
+            rw (r, run_tail n₁ (found Transmit) 89 a same₁ (omega (arith, low_fit)), p, q)
+            (rw zero-add at (run_append n₀ (found Receive) (found Transmit) 0))
+
+        two_long : a + b ≡ length (found Receive ++ found Transmit)
+        two_long = rw (q, t, length-append)
+
+        same₂ : length n₂ ≡ 89
+        same₂ = rw (two, length-sets) long
+
+        pub found_low :
+            has_broadcast_cells s ≡ false → (n₂ ≡ sets n₀ 0 (meeting_cells ram s cell)) × (a + b ≡ length (meeting_cells ram s cell))
+        found_low off = (rw (kinds_low off) two, rw (kinds_low off) two_long)
+
+        pub broadcast_room : has_broadcast_cells s ≡ true → length (found Broadcast) ≤ length room₂
+        broadcast_room on = rw (mid_len (a + b) 89 n₂ (omega (arith, same₂))) (omega (arith, all_fit on))
+
+        pub found_all :
+            has_broadcast_cells s ≡ true → (now₂ : List ℕ) (e : ℕ) → now₂ ≡ sets room₂ 0 (found Broadcast) →
+            e ≡ length (found Broadcast) →
+            (put_mid (a + b) (89 - (a + b)) n₂ now₂ ≡ sets n₀ 0 (meeting_cells ram s cell))
+            × (a + b + e ≡ length (meeting_cells ram s cell))
+        found_all on now₂ e u v = (
+          rw (kinds_all on, u, run_tail n₂ (found Broadcast) 89 (a + b) same₂ (omega (arith, all_fit on)), two_long, two)
+              (rw zero-add at (run_append n₀ (found Receive ++ found Transmit) (found Broadcast) 0)),
+          rw (kinds_all on, length-append, two_long, v),
         )

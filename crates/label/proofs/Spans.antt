@@ -2,11 +2,11 @@
 -- none.
 use Prim.Native.Nat.{ℕ, ◌+◌, ◌-◌, ◌<◌, ◌≤◌}
 use native.Mathlib.Omega.{arith}
-use mathlib.Core.Path.{◌≡◌, refl, sym}
+use mathlib.Core.Path.{◌≡◌, refl, sym, ap, ◌∙◌}
 use mathlib.Core.Logic.{⊎_elim}
 use mathlib.Core.Bool.{Bool, true, false, not, cond, ◌&&◌, and-false}
 use mathlib.Core.List.{List}
-use lib.ListN.{length, get_or, replicate, length-replicate}
+use lib.ListN.{length, length-map, get_or, get_or-map}
 use lib.Dec.{eqb}
 use borrow.Author.Tests.{lt-ltb, le-ltb, ne_eqb}
 use Rattle.words.specs.Settings.{has_broadcast_cells}
@@ -23,7 +23,7 @@ use Rattle.area.specs.Area.{is_read, read_end, cell_numbered, is_unsound}
 use Rattle.area.proofs.Listed.{read_listed}
 use Rattle.label_spans.specs.declared.span.Span.{Span}
 use Rattle.label.specs.Listing.{above, passing, pairs_below}
-use Rattle.label_spans.specs.Span.{window_numbered, read_and_sound, span_of_window, no_span, span_of, starts_into, ends_into, spans_meet, span_at, places_meet, read_in_vain}
+use Rattle.label_spans.specs.Span.{window_numbered, read_and_sound, span_of_window, no_span, span_of, starts_of, ends_of, starts_into, ends_into, spans_meet, span_at, places_meet, read_in_vain}
 use Rattle.label.specs.Label.{takes_part, cells_meet, meeting_pairs, unsound_cells}
 use Rattle.label.proofs.Turns.{passing_same, pairs_same, pairs_stay}
 use Rattle.label.proofs.Meeting.{TakesPart, part_facts}
@@ -66,17 +66,10 @@ read_unsound false sound = refl
 
 -- as the loops' turns ask it
 pub turn_above :
-    (starts ends : List ℕ) (lower higher : ℕ) (own : Span) (met : Bool) → lower < higher →
-    own ≡ span_at starts ends lower → met ≡ spans_meet own (span_at starts ends higher) →
-    above (places_meet starts ends) lower higher ≡ met
+    (spans : List Span) (lower higher : ℕ) (met : Bool) → lower < higher →
+    met ≡ spans_meet (span_at spans lower) (span_at spans higher) → above (places_meet spans) lower higher ≡ met
 unfolding places_meet
-turn_above starts ends lower higher own met l o e = rw (lt-ltb lower higher l, e, o)
-
-pub turn_vain :
-    (s : Settings) (ends : List ℕ) (n : ℕ) (read asked : Bool) → read ≡ is_read s n →
-    asked ≡ (read && eqb (get_or ends n 0) 0) → read_in_vain s ends n ≡ asked
-unfolding read_in_vain
-turn_vain s ends n read asked e a = rw (a, e)
+turn_above spans lower higher met l e = rw (lt-ltb lower higher l, e)
 
 module _ (ram : List ℕ) (s : Settings) where
   abbrev span : ℕ → Span
@@ -106,31 +99,41 @@ module _ (ram : List ℕ) (s : Settings) where
 
   -- ---- the table of all spans
 
-  abbrev starts : List ℕ
-  starts = starts_into ram s (replicate 96 0)
+  -- where each begins and where each ends, put over a list as long
+  pub record Table (spans : List Span) : Type 0 where
+    pub places : List Span
+    pub long : length places ≡ 96
+    pub starts : starts_of spans ≡ starts_into ram s (starts_of places)
+    pub ends : ends_of spans ≡ ends_into ram s (ends_of places)
 
-  abbrev ends : List ℕ
-  ends = ends_into ram s (replicate 96 0)
-
-  end_at : (n : ℕ) → n < 96 → get_or ends n 0 ≡ (span n).end
-  end_at n h = fill_at (λ k. (span k).end) (replicate 96 0) 96 n (rw length-replicate (omega arith)) h
-
-  start_at : (n : ℕ) → n < 96 → get_or starts n 0 ≡ (span n).start
-  start_at n h = fill_at (λ k. (span k).start) (replicate 96 0) 96 n (rw length-replicate (omega arith)) h
+  -- is the span of each cell
+  table_at : (spans : List Span) → Table spans → (n : ℕ) → n < 96 → span_at spans n ≡ span n
+  table_at spans t n h =
+      let start : Span → ℕ = λ v. v.start in
+      let end : Span → ℕ = λ v. v.end in
+      let b : (span_at spans n).start ≡ (span n).start =
+      sym (get_or-map start spans n no_span) ∙ ap (λ l. get_or l n 0) t.starts
+      ∙ fill_at (λ k. (span k).start) (starts_of t.places) 96 n (omega (arith, length-map t.places start, t.long)) h in
+      let e : (span_at spans n).end ≡ (span n).end =
+      sym (get_or-map end spans n no_span) ∙ ap (λ l. get_or l n 0) t.ends
+      ∙ fill_at (λ k. (span k).end) (ends_of t.places) 96 n (omega (arith, length-map t.places end, t.long)) h in
+      λ i. record { start = b i; end = e i }
 
   -- two cells of the table meet, if they are not the same
-  pub places_cells : (cell other : ℕ) → cell < other → other < 96 → places_meet starts ends cell other ≡ cells_meet ram s cell other
+  places_cells :
+      (spans : List Span) → Table spans → (cell other : ℕ) → cell < other → other < 96 →
+      places_meet spans cell other ≡ cells_meet ram s cell other
   unfolding places_meet
-  places_cells cell other l h =
+  places_cells spans t cell other l h =
       let k : cell < 96 = omega arith in
       let d : eqb other cell ≡ false = ne_eqb other cell (λ e. omega arith) in
-      rw (start_at cell k, end_at cell k, start_at other h, end_at other h) (rw d at (spans_cells cell other))
+      rw (table_at spans t cell k, table_at spans t other h) (rw d at (spans_cells cell other))
 
   -- a cell that is read and has no span is unsound
-  pub in_vain : (n : ℕ) → n < 96 → read_in_vain s ends n ≡ is_unsound ram s (stack_window ram s) n
+  in_vain : (spans : List Span) → Table spans → (n : ℕ) → n < 96 → read_in_vain s spans n ≡ is_unsound ram s (stack_window ram s) n
   unfolding read_in_vain takes_part read_and_sound is_unsound
-  in_vain n h =
-      rw (end_at n h, no_end n)
+  in_vain spans t n h =
+      rw (table_at spans t n h, no_end n)
       (read_unsound (is_read s n) (sound_cell (length ram) (stack_window ram s) (cell_numbered ram s n)))
 
   -- cells from `read_end` on are not read, so they meet none
@@ -166,24 +169,19 @@ module _ (ram : List ℕ) (s : Settings) where
 
   -- so the table gives the label's lists
   pub table_pairs :
-      (b e : List ℕ) (end : ℕ) → b ≡ starts → e ≡ ends → end ≡ read_end s →
-      pairs_below (places_meet b e) end end ≡ meeting_pairs ram s
+      (spans : List Span) (end : ℕ) → Table spans → end ≡ read_end s →
+      pairs_below (places_meet spans) end end ≡ meeting_pairs ram s
   unfolding meeting_pairs
-  table_pairs b e end p q r =
-      rw (p, q, r, read_pairs)
-      (pairs_same (places_meet starts ends) (cells_meet ram s) (read_end s) (read_end s)
-      (λ k l j h. places_cells k l j (omega (arith, end_small))))
+  table_pairs spans end t r =
+      rw (r, read_pairs)
+      (pairs_same (places_meet spans) (cells_meet ram s) (read_end s) (read_end s)
+      (λ k l j h. places_cells spans t k l j (omega (arith, end_small))))
 
-  pub table_unsound : (e : List ℕ) → e ≡ ends → passing (read_in_vain s e) 96 ≡ unsound_cells ram s
+  pub table_unsound : (spans : List Span) → Table spans → passing (read_in_vain s spans) 96 ≡ unsound_cells ram s
   unfolding unsound_cells
-  table_unsound e q =
-      rw q (passing_same (read_in_vain s ends) (is_unsound ram s (stack_window ram s)) 96 in_vain)
+  table_unsound spans t = passing_same (read_in_vain s spans) (is_unsound ram s (stack_window ram s)) 96 (in_vain spans t)
 
 -- a cell that has no span meets none
-pub spanless_none :
-    (starts ends : List ℕ) (cell : ℕ) (own : Span) → own ≡ span_at starts ends cell → own.end ≡ 0 → (k : ℕ) →
-    places_meet starts ends cell k ≡ false
+pub spanless_none : (spans : List Span) (cell : ℕ) → (span_at spans cell).end ≡ 0 → (k : ℕ) → places_meet spans cell k ≡ false
 unfolding places_meet spans_meet
-spanless_none starts ends cell own o z k =
-    let e : get_or ends cell 0 ≡ 0 = rw o at z in
-    rw (e, le-ltb (get_or starts k 0) 0 (omega arith), and-false)
+spanless_none spans cell z k = rw (z, le-ltb (span_at spans k).start 0 (omega arith), and-false)

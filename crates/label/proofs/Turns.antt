@@ -8,7 +8,8 @@ use mathlib.Core.Logic.{⊎_elim}
 use mathlib.Core.Bool.{Bool, true, false, cond, and-false}
 use mathlib.Core.List.{List, [], ◌∷◌, ◌++◌, map, map-append, map-id, map-map, append-nil}
 use lib.ListN.{length, get_or, set, take, drop, length-append, length-map, replicate}
-use lib.Seq.{sets, sets-eq, length-sets, take-suc, take-append_seam}
+use lib.Seq.{sets, sets-eq, length-sets, take_all, take-suc, take-append_seam, length-take-le}
+use Rattle.std.proofs.lemmas.List.{map_more}
 use lib.Dec.{ltb}
 use borrow.Author.Tests.{le-ltb}
 use Rattle.words.proofs.Basics.{lt_or_ge}
@@ -184,25 +185,7 @@ unfolding front
 length_front numbers zero = refl
 length_front numbers (suc n) = rw length-append (omega (arith, length_front numbers n))
 
--- one number more of those that are listed
-pub front_more :
-    {A : Type 0} (f : ℕ → A) (room : List A) (numbers : List ℕ) (k : ℕ) →
-    set (sets room 0 (map f (front numbers k))) k (f (get_or numbers k 0)) ≡ sets room 0 (map f (front numbers (k + 1)))
-unfolding front
-front_more f room numbers k =
-    let before = front numbers k in
-    let m = run_more room (map f before) (f (get_or numbers k 0)) 0 in
-    let long : 0 + length (map f before) ≡ k = zero-add _ ∙ length-map before f ∙ length_front numbers k in
-    rw (add-one, map-append f before (get_or numbers k 0 ∷ []), ← m, long)
-
-pub front_told :
-    (number : ℕ) (numbers : List ℕ) (k count : ℕ) (cells : List Sharer) → k ≡ count →
-    cells ≡ sets (replicate 89 no_sharer) 0 (map sharer_numbered (front numbers k)) →
-    record { number = number; count = count; cells = cells } ≡ cell_answer number (front numbers count)
-unfolding cell_answer
-front_told number numbers k count cells e p = rw (p, e, length_front numbers count)
-
-front_take : (numbers : List ℕ) (n : ℕ) → n ≤ length numbers → front numbers n ≡ take n numbers
+pub front_take : (numbers : List ℕ) (n : ℕ) → n ≤ length numbers → front numbers n ≡ take n numbers
 unfolding front
 front_take numbers zero h = refl
 front_take numbers (suc n) h = rw (front_take numbers n (omega arith), take-suc numbers n 0 h)
@@ -213,6 +196,23 @@ pub front_back :
 front_back room listed h =
     front_take (sets room 0 listed) (length listed) (rw length-sets h)
     ∙ rw (sets-eq listed room 0 (omega arith)) (take-append_seam listed (drop (0 + length listed) room))
+
+-- one cell more of those that are listed
+pub listed_more :
+    {A : Type 0} (f : ℕ → A) (room : List A) (listed : List ℕ) (k : ℕ) → k < length listed →
+    set (sets room 0 (map f (take k listed))) k (f (get_or listed k 0)) ≡ sets room 0 (map f (take (k + 1) listed))
+listed_more f room listed k h =
+    let before = map f (take k listed) in
+    let m = run_more room before (f (get_or listed k 0)) 0 in
+    let long : 0 + length before ≡ k = zero-add _ ∙ length-map (take k listed) f ∙ length-take-le k listed (omega arith) in
+    rw (map_more f listed k 0 h, ← m, long)
+
+pub listed_told :
+    (number : ℕ) (listed : List ℕ) (k : ℕ) (cells : List Sharer) → length listed ≤ k →
+    cells ≡ sets (replicate 89 no_sharer) 0 (map sharer_numbered (take k listed)) →
+    record { number = number; count = length listed; cells = cells } ≡ cell_answer number listed
+unfolding cell_answer
+listed_told number listed k cells h e = rw (e, take_all k listed h)
 
 abbrev pub itself : ℕ → ℕ
 itself n = n

@@ -3,5 +3,4 @@
 #![tactic(auto)]
 
 pub mod one;
-pub mod place;
 pub mod whole;
