@@ -20,7 +20,7 @@ use writes::carry::carry_out;
 use writes::reply::send;
 
 // Refused with a number, or done by a plan.
-#[derive(Clone, Copy)]
+#[derive(Clone, Copy, Debug, PartialEq, Eq)]
 pub enum Performed {
     Refused(u16),
     Done(Plan),

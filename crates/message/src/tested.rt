@@ -14,7 +14,7 @@ use words::refusal::Refusal;
 use words::settings::Settings;
 
 // Stack, cell and window are worked out once, by the tests, and handed on to the plan.
-#[derive(Clone, Copy)]
+#[derive(Clone, Copy, Debug, PartialEq, Eq)]
 pub struct Found {
     pub target: Target,
     pub pointer: u16,

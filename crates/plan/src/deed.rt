@@ -16,7 +16,7 @@ use words::command;
 use words::settings::Settings;
 
 // What the interrupt word tells of the message itself.
-#[derive(Clone, Copy)]
+#[derive(Clone, Copy, Debug, PartialEq, Eq)]
 pub struct Signals {
     pub illegal: bool,
     pub rollover: bool,
@@ -24,7 +24,7 @@ pub struct Signals {
     pub end: bool,
 }
 
-#[derive(Clone, Copy)]
+#[derive(Clone, Copy, Debug, PartialEq, Eq)]
 pub struct Deed {
     // the number of the cell, and the window from whose pointer on words are stored or sent
     pub cell: u16,

@@ -6,7 +6,7 @@ use crate::motion::pointer_to;
 use windows::window::{Window, place, rolls_over};
 
 // Where the descriptor goes, where the stack pointer stands then, and whether it went round.
-#[derive(Clone, Copy)]
+#[derive(Clone, Copy, Debug, PartialEq, Eq)]
 pub struct Entry {
     pub pointer: u16,
     pub after: u16,

@@ -9,7 +9,7 @@ use windows::window::{place, rolls_over};
 use words::settings::Settings;
 
 // Where the cell's pointer goes.
-#[derive(Clone, Copy)]
+#[derive(Clone, Copy, Debug, PartialEq, Eq)]
 pub struct Motion {
     pub moves: bool,
     pub after: u16,

@@ -14,7 +14,7 @@ use words::bits::word_of;
 use words::remembered::{Remembered, remembering};
 use words::settings::Settings;
 
-#[derive(Clone, Copy)]
+#[derive(Clone, Copy, Debug, PartialEq, Eq)]
 pub struct Plan {
     pub deed: Deed,
     pub entry: Entry,
