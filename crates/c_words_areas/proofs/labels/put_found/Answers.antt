@@ -7,5 +7,5 @@ use Rattle.c_words_areas.proofs.labels.put_found.Goals as goal
 
 pub returns : goal.returns
 returns c =
-    rw (c.put_sharers.ensures, c.put.ensures, c.put_no_listing.ensures, c.smaller-listed.ensures)
+    rw (c.put_sharers.ensures, c.put.ensures, c.put_over.ensures, c.from.ensures, c.min-listed.ensures)
     (listing_over _ _ _ (sym (length_front _ _)) (omega arith))
