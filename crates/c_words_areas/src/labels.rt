@@ -1,5 +1,5 @@
 // The labels on shared pages as plain words.
-ghost use Rattle.std.specs.Prelude.{◌≡◌, [], ◌∷◌, map, ◌≤◌, min};
+ghost use Rattle.std.specs.Prelude.{◌≡◌, [], ◌∷◌, map, length, ◌≤◌, min};
 ghost use Rattle.std.proofs.lemmas.List.Edits.{sets};
 ghost use Rattle.label.specs.Listing.{front};
 ghost use Rattle.label.specs.Label.{sharer_numbered, cell_answer};
@@ -27,13 +27,13 @@ fn put_sharer(xs: &mut [u16], at: usize, number: u16)
     }
 }
 
-// The words of the first `count` cells, from place 1 on.
-#[tactic(auto, unfolding(label::specs::Listing::front, crate::specs::Labels::sharer_words))]
-fn put_sharers(xs: &mut [u16], numbers: &Numbers, count: usize)
-    requires { count ≤ 89 }
-    ensures { xs.new ≡ sets xs.old 1 (sharer_words (map sharer_numbered (front numbers.now count))) }
+// The words of the cells with these numbers, from place 1 on.
+#[tactic(auto, unfolding(crate::specs::Labels::sharer_words))]
+fn put_sharers(xs: &mut [u16], numbers: &[u16])
+    requires { length numbers.now ≤ 89 }
+    ensures { xs.new ≡ sets xs.old 1 (sharer_words (map sharer_numbered numbers.now)) }
 {
-    for (k, &number) in numbers[..count].iter().enumerate() {
+    for (k, &number) in numbers.iter().enumerate() {
         put_sharer(xs, 1 + 2 * k, number);
     }
 }
@@ -46,7 +46,7 @@ pub fn put_found(xs: &mut [u16], numbers: &Numbers, count: u16)
     put_over(xs, 0, &[0; 179]);
     let listed = count.min(89);
     put(xs, 0, listed);
-    put_sharers(xs, numbers, usize::from(listed));
+    put_sharers(xs, &numbers[..usize::from(listed)]);
 }
 
 #[tactic(auto, using(c_words::proofs::Order::fields_put), unfolding(crate::specs::Labels::count_words))]
