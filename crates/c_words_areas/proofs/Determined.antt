@@ -13,9 +13,6 @@ check_word_settled κs a x y v w p q = (determined p q, refl)
 pub put_found_settled : Settled 2 labels.put_found.Kinds.ps labels.put_found.Kinds.r labels.put_found.Reads.Post
 put_found_settled κs a x y v w p q = (refl, λ i. (determined p q i, v.1))
 
-pub put_cells_settled : Settled 1 labels.put_cells.Kinds.ps labels.put_cells.Kinds.r labels.put_cells.Reads.Post
-put_cells_settled κs a x y v w p q = (refl, λ i. (determined p q i, v.1))
-
 pub put_counts_settled : Settled 1 labels.put_counts.Kinds.ps labels.put_counts.Kinds.r labels.put_counts.Reads.Post
 put_counts_settled κs a x y v w p q = (refl, λ i. (determined p q i, v.1))
 

@@ -1,12 +1,13 @@
 -- The words of a listing: those of the cells that are found, over zeros.
-use Prim.Native.Nat.{ℕ, zero, suc, min, ◌+◌, ◌*◌, ◌≤◌}
+use Prim.Native.Nat.{ℕ, zero, suc, min, ◌+◌, ◌*◌, ◌≤◌, ◌<◌}
 use native.Mathlib.Nat.{min-eq_left}
 use native.Mathlib.Numerals.{add-one}
 use native.Mathlib.Omega.{arith}
 use mathlib.Core.Path.{◌≡◌, refl, ◌∙◌}
 use mathlib.Core.List.{List, [], ◌∷◌, ◌++◌, map, map-append}
-use lib.ListN.{length, get_or, set, replicate, length-set, length-map}
-use lib.Seq.{sets, set-set, set_out}
+use lib.ListN.{length, get_or, set, take, replicate, length-set, length-map}
+use lib.Seq.{sets, set-set, set_out, take-suc}
+use Rattle.std.proofs.lemmas.List.{length-take-le}
 use Rattle.words.specs.Bits.{bit_of}
 use Rattle.words.proofs.Runs.{sets_append}
 use Rattle.words.specs.declared.settings.Settings.{Settings}
@@ -14,7 +15,6 @@ use Rattle.label.specs.declared.one.Counted.{Counted}
 use Rattle.label.specs.declared.one.Sharer.{Sharer}
 use Rattle.label.specs.Listing.{front}
 use Rattle.label.specs.Label.{sharer_numbered, no_sharer, sharers_of, counted_of, cell_answer, cell_label}
-use Rattle.label.proofs.Turns.{length_front}
 use Rattle.label.proofs.Found.{counted_most, counted_front}
 use Rattle.c_words.specs.Over.{over}
 use Rattle.c_words.proofs.Order.{set_later}
@@ -51,17 +51,21 @@ module _ (xs : List ℕ) (at n : ℕ) (x : Sharer) (e : x ≡ sharer_numbered n)
 
 -- one cell more
 pub words_more :
-    (xs numbers : List ℕ) (k : ℕ) →
-    sets (sets xs 1 (sharer_words (map sharer_numbered (front numbers k)))) (1 + 2 * k) (sharer_words (sharer_numbered (get_or numbers k 0) ∷ []))
-    ≡ sets xs 1 (sharer_words (map sharer_numbered (front numbers (k + 1))))
-unfolding front
-words_more xs numbers k =
-    let before = map sharer_numbered (front numbers k) in
+    (xs numbers : List ℕ) (k : ℕ) → k < length numbers →
+    sets (sets xs 1 (sharer_words (map sharer_numbered (take k numbers)))) (1 + 2 * k) (sharer_words (sharer_numbered (get_or numbers k 0) ∷ []))
+    ≡ sets xs 1 (sharer_words (map sharer_numbered (take (k + 1) numbers)))
+words_more xs numbers k h =
+    let before = map sharer_numbered (take k numbers) in
     let next = sharer_numbered (get_or numbers k 0) ∷ [] in
     let long : 1 + length (sharer_words before) ≡ 1 + 2 * k =
-    rw (words_length before, length-map (front numbers k) sharer_numbered, length_front numbers k) in
+    rw (words_length before, length-map (take k numbers) sharer_numbered, length-take-le k numbers (omega arith)) in
     let m = rw long at (sets_append xs (sharer_words before) (sharer_words next) 1) in
-    rw (add-one, map-append sharer_numbered (front numbers k) (get_or numbers k 0 ∷ []), words_append before next) m
+    rw (add-one, take-suc numbers k 0 h, map-append sharer_numbered (take k numbers) (get_or numbers k 0 ∷ []), words_append before next) m
+
+pub front_take : (numbers : List ℕ) (n : ℕ) → n ≤ length numbers → front numbers n ≡ take n numbers
+unfolding front
+front_take numbers zero h = refl
+front_take numbers (suc n) h = rw (front_take numbers n (omega arith), take-suc numbers n 0 h)
 
 -- ---- over zeros
 

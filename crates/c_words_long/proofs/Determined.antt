@@ -10,7 +10,3 @@ long_from_settled κs a x y v w p q = (determined p q, refl)
 
 pub put_long_settled : Settled 1 long_values.put_long.Kinds.ps long_values.put_long.Kinds.r long_values.put_long.Reads.Post
 put_long_settled κs a x y v w p q = (refl, λ i. (determined p q i, v.1))
-
-pub put_long_bytes_settled :
-    Settled 1 long_values.put_long_bytes.Kinds.ps long_values.put_long_bytes.Kinds.r long_values.put_long_bytes.Reads.Post
-put_long_bytes_settled κs a x y v w p q = (refl, λ i. (determined p q i, v.1))
