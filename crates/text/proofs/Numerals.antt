@@ -94,9 +94,9 @@ decimal_long n h l =
     )
 
 -- a number of one digit, of two, three and four
-pub decimal_1 : (n : ℕ) → n < 10 → decimal_text n ≡ digits 1 n
-unfolding decimal_text
-decimal_1 n h = rw (places_one 19 n h)
+pub decimal_1 : (n : ℕ) → n < 10 → decimal_text n ≡ (48 + n) ∷ []
+unfolding decimal_text digits
+decimal_1 n h = let e : n % 10 ≡ n = omega arith in rw (places_one 19 n h, e)
 
 pub decimal_2 : (n : ℕ) → 10 ≤ n → n < 100 → decimal_text n ≡ digits 2 n
 unfolding decimal_text

@@ -17,5 +17,5 @@ write-requires t c =
 
 pub returns-else-n-lt10000 : goal.returns-else-n-lt10000
 returns-else-n-lt10000 t c =
-    rw (decimal_long c.args.n c.if-n-lt10000.false (omega arith), ← c.last_four.ensures)
+    rw (decimal_long c.args.n c.if-n-lt10000.false (omega arith), ← c.four_digits.ensures)
     (adds_then c.write_decimal.ensures c.write.ensures)
