@@ -16,7 +16,7 @@ impl Text<'_> {
     {
         let (first, second) = table.pair((w / 256) as u8);
         let (third, fourth) = table.pair((w % 256) as u8);
-        self.write(&[b' ', first, second, third, fourth]);
+        self.write([b' ', first, second, third, fourth]);
     }
 
     // A column of a number.
@@ -26,7 +26,7 @@ impl Text<'_> {
         requires { self.old.at + 21 ≤ length self.old.out.now }
         ensures { Adds self.old (column (decimal_text n)) self.new }
     {
-        self.write(b" ");
+        self.write([b' ']);
         self.write_decimal(n);
     }
 
@@ -40,7 +40,7 @@ impl Text<'_> {
         if a.answered {
             self.write_word(a.status, table);
         } else {
-            self.write(b" none");
+            self.write(*b" none");
         }
     }
 
@@ -64,11 +64,11 @@ impl Text<'_> {
         requires accepted { a.number ≡ 0 }
         ensures { Adds self.old (accepted_columns a) self.new }
     {
-        self.write(b" 0");
+        self.write(*b" 0");
         self.write_three(a, table);
         self.write_status(a, table);
         self.write_number(u64::from(a.sent));
         self.write_word(a.interrupt, table);
-        self.write(b"\n");
+        self.write([b'\n']);
     }
 }

@@ -7,32 +7,31 @@ use crate::text::Text;
 // A number has at most so many digits.
 const MOST_DIGITS: usize = 20;
 
-#[inline(always)]
-#[tactic(auto, unfolding(crate::specs::Text::digits))]
-fn two_digits(n: u16) -> [u8; 2]
-    requires { n < 100 }
-    ensures { result ≡ digits 2 n }
-{
-    [b'0' + (n / 10) as u8, b'0' + (n % 10) as u8]
-}
-
-#[inline(always)]
-#[tactic(auto, unfolding(crate::specs::Text::digits))]
-fn four_digits(n: u16) -> [u8; 4]
-    requires { n < 10000 }
-    ensures { result ≡ digits 4 n }
-{
-    let high = n / 100;
-    let low = n % 100;
-    [
-        b'0' + (high / 10) as u8,
-        b'0' + (high % 10) as u8,
-        b'0' + (low / 10) as u8,
-        b'0' + (low % 10) as u8,
-    ]
-}
-
 impl Text<'_> {
+    // The last two digits of n.
+    #[inline(always)]
+    #[tactic(auto, unfolding(crate::specs::Text::digits))]
+    fn write_pair(&mut self, n: u16)
+        requires { self.old.at + 2 ≤ length self.old.out.now }
+        ensures { Adds self.old (digits 2 n) self.new }
+    {
+        self.write([b'0' + (n / 10 % 10) as u8, b'0' + (n % 10) as u8]);
+    }
+
+    // A number of one digit or two, that there is room for.
+    #[inline(always)]
+    fn write_few(&mut self, n: u16)
+        requires few { n < 100 }
+        requires room { self.old.at + length (decimal_text n) ≤ length self.old.out.now }
+        ensures { Adds self.old (decimal_text n) self.new }
+    {
+        if n < 10 {
+            self.write([b'0' + n as u8]);
+        } else {
+            self.write_pair(n);
+        }
+    }
+
     // A number of up to four digits, that there is room for.
     #[inline(always)]
     fn write_short(&mut self, n: u16)
@@ -40,27 +39,28 @@ impl Text<'_> {
         requires room { self.old.at + length (decimal_text n) ≤ length self.old.out.now }
         ensures { Adds self.old (decimal_text n) self.new }
     {
-        if n < 10 {
-            self.write(&[b'0' + n as u8]);
-        } else if n < 100 {
-            self.write(&two_digits(n));
-        } else if n < 1000 {
-            self.write(&four_digits(n)[1..]);
+        if n < 100 {
+            self.write_few(n);
         } else {
-            self.write(&four_digits(n));
+            self.write_few(n / 100);
+            self.write_pair(n % 100);
         }
     }
 
-    // A number that there is room for.
+    // A number that there is room for. Most have eight digits at most, and a way without a call of this function.
     pub(crate) fn write_decimal(&mut self, n: u64)
         requires { self.old.at + length (decimal_text n) ≤ length self.old.out.now }
         ensures { Adds self.old (decimal_text n) self.new }
     {
         if n < 10000 {
             self.write_short(n as u16);
+        } else if n < 100000000 {
+            self.write_short((n / 10000) as u16);
+            self.write_pair((n / 100 % 100) as u16);
+            self.write_pair((n % 100) as u16);
         } else {
-            self.write_decimal(n / 10000);
-            self.write(&four_digits((n % 10000) as u16));
+            self.write_decimal(n / 100);
+            self.write_pair((n % 100) as u16);
         }
     }
 
