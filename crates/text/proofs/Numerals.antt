@@ -60,18 +60,8 @@ digits_pair j n =
     let e : n / 10 / 10 ≡ n / 100 = omega arith in
     rw (e, append_assoc (digits j (n / 100)) ((48 + n / 10 % 10) ∷ []) ((48 + n % 10) ∷ []))
 
--- only the last four digits count
-last_four : (n : ℕ) → digits 4 n ≡ digits 4 (n % 10000)
-unfolding digits
-last_four n =
-    let a : n % 10000 / 10 / 10 / 10 % 10 ≡ n / 10 / 10 / 10 % 10 = omega arith in
-    let b : n % 10000 / 10 / 10 % 10 ≡ n / 10 / 10 % 10 = omega arith in
-    let c : n % 10000 / 10 % 10 ≡ n / 10 % 10 = omega arith in
-    let d : n % 10000 % 10 ≡ n % 10 = omega arith in
-    rw (a, b, c, d)
-
 -- a number of more than two digits: those in front of the last two, and these
-decimal_pair : (n : ℕ) → 100 ≤ n → n < 2 ^ 64 → decimal_text n ≡ decimal_text (n / 100) ++ digits 2 n
+pub decimal_pair : (n : ℕ) → 100 ≤ n → n < 2 ^ 64 → decimal_text n ≡ decimal_text (n / 100) ++ digits 2 n
 unfolding decimal_text
 decimal_pair n h l =
     let e : n / 10 / 10 ≡ n / 100 = omega arith in
@@ -80,39 +70,24 @@ decimal_pair n h l =
     rw (places_more 18 n (omega arith), places_more 17 (n / 10) (omega arith), e, places_same 17 0 2 (n / 100) m) in
     rw (p, digits_pair)
 
--- a number of more than four digits
-pub decimal_long : (n : ℕ) → 10000 ≤ n → n < 2 ^ 64 → decimal_text n ≡ decimal_text (n / 10000) ++ digits 4 (n % 10000)
-decimal_long n h l =
+-- one of more than four: those in front, the two before the last two, and these
+pub decimal_pairs :
+    (n : ℕ) → 10000 ≤ n → n < 2 ^ 64 → decimal_text n ≡ decimal_text (n / 10000) ++ digits 2 (n / 100) ++ digits 2 n
+decimal_pairs n h l =
     let e : n / 100 / 100 ≡ n / 10000 = omega arith in
-    rw (
-      decimal_pair n (omega arith) l,
-      decimal_pair (n / 100) (omega arith) (omega arith),
-      e,
-      append_assoc (decimal_text (n / 10000)) (digits 2 (n / 100)) (digits 2 n),
-      ← digits_pair 2 n,
-      last_four n,
-    )
+    rw (decimal_pair n (omega arith) l, decimal_pair (n / 100) (omega arith) (omega arith), e)
 
--- a number of one digit, of two, three and four
-pub decimal_1 : (n : ℕ) → n < 10 → decimal_text n ≡ digits 1 n
-unfolding decimal_text
-decimal_1 n h = rw (places_one 19 n h)
+pub decimal_one : (n : ℕ) → n < 10 → decimal_text n ≡ (48 + n) ∷ []
+unfolding decimal_text digits
+decimal_one n h = let e : n % 10 ≡ n = omega arith in rw (places_one 19 n h, e)
 
-pub decimal_2 : (n : ℕ) → 10 ≤ n → n < 100 → decimal_text n ≡ digits 2 n
+pub decimal_two : (n : ℕ) → 10 ≤ n → n < 100 → decimal_text n ≡ digits 2 n
 unfolding decimal_text
-decimal_2 n h l = rw (places_more 18 n h, places_one 18 (n / 10) (omega arith))
+decimal_two n h l = rw (places_more 18 n h, places_one 18 (n / 10) (omega arith))
 
-pub decimal_3 : (n : ℕ) → 100 ≤ n → n < 1000 → decimal_text n ≡ digits 3 n
-unfolding decimal_text
-decimal_3 n h l =
-    rw (places_more 18 n (omega arith), places_more 17 (n / 10) (omega arith), places_one 17 (n / 10 / 10) (omega arith))
-
-pub decimal_4 : (n : ℕ) → 1000 ≤ n → n < 10000 → decimal_text n ≡ digits 4 n
-unfolding decimal_text
-decimal_4 n h l =
-    rw (
-      places_more 18 n (omega arith),
-      places_more 17 (n / 10) (omega arith),
-      places_more 16 (n / 10 / 10) (omega arith),
-      places_one 16 (n / 10 / 10 / 10) (omega arith),
-    )
+-- only the last two digits count
+pub pair_last : (n : ℕ) → digits 2 (n % 100) ≡ digits 2 n
+unfolding digits
+pair_last n =
+    let e : n % 100 / 10 % 10 ≡ n / 10 % 10 = omega arith in
+    let f : n % 100 % 10 ≡ n % 10 = omega arith in rw (e, f)

@@ -16,7 +16,7 @@ impl Text<'_> {
     {
         let (first, second) = table.pair((w / 256) as u8);
         let (third, fourth) = table.pair((w % 256) as u8);
-        self.write(&[b' ', first, second, third, fourth]);
+        self.write([b' ', first, second, third, fourth]);
     }
 
     // A column of a number.
@@ -26,30 +26,30 @@ impl Text<'_> {
         requires { self.old.at + 21 ≤ length self.old.out.now }
         ensures { Adds self.old (column (decimal_text n)) self.new }
     {
-        self.write(b" ");
+        self.write([b' ']);
         self.write_decimal(n);
     }
 
     // The status column: the word, or "none" where none was sent.
     #[inline(always)]
     #[tactic(auto, unfolding(crate::specs::Line::status_text, crate::specs::Line::none_text))]
-    fn write_status(&mut self, a: &Answer, table: &HexTable)
+    fn write_status(&mut self, a: Answer, table: &HexTable)
         requires { self.old.at + 5 ≤ length self.old.out.now }
-        ensures { Adds self.old (column (status_text a.now.answered a.now.status)) self.new }
+        ensures { Adds self.old (column (status_text a.answered a.status)) self.new }
     {
         if a.answered {
             self.write_word(a.status, table);
         } else {
-            self.write(b" none");
+            self.write(*b" none");
         }
     }
 
     // The words before the status column.
     #[inline(always)]
     #[tactic(auto, using(crate::proofs::Runs::length_hex))]
-    fn write_three(&mut self, a: &Answer, table: &HexTable)
+    fn write_three(&mut self, a: Answer, table: &HexTable)
         requires { self.old.at + 15 ≤ length self.old.out.now }
-        ensures { Adds self.old (three_words a.now.block_status a.now.before a.now.after) self.new }
+        ensures { Adds self.old (three_words a.block_status a.before a.after) self.new }
     {
         self.write_word(a.block_status, table);
         self.write_word(a.before, table);
@@ -58,16 +58,17 @@ impl Text<'_> {
 
     // All of them take 50 bytes at most. The number of an accepted record is 0.
     #[tactic(auto, using(crate::proofs::Runs::length_hex, crate::proofs::Lines::length_three, crate::proofs::Lines::length_status, crate::proofs::Numerals::decimal_most))]
-    pub(crate) fn write_accepted(&mut self, a: &Answer, table: &HexTable)
+    #[inline(always)]
+    pub(crate) fn write_accepted(&mut self, a: Answer, table: &HexTable)
         requires room { self.old.at + 50 ≤ length self.old.out.now }
-        requires accepted { a.now.number ≡ 0 }
-        ensures { Adds self.old (accepted_columns a.now) self.new }
+        requires accepted { a.number ≡ 0 }
+        ensures { Adds self.old (accepted_columns a) self.new }
     {
-        self.write(b" 0");
+        self.write(*b" 0");
         self.write_three(a, table);
         self.write_status(a, table);
         self.write_number(u64::from(a.sent));
         self.write_word(a.interrupt, table);
-        self.write(b"\n");
+        self.write([b'\n']);
     }
 }

@@ -7,53 +7,78 @@ use crate::text::Text;
 // A number has at most so many digits.
 const MOST_DIGITS: usize = 20;
 
-// The last four digits of n.
-#[inline(always)]
-#[tactic(auto, unfolding(crate::specs::Text::digits))]
-fn last_four(n: u16) -> [u8; 4]
-    ensures { result ≡ digits 4 n }
-{
-    [
-        b'0' + (n / 10 / 10 / 10 % 10) as u8,
-        b'0' + (n / 10 / 10 % 10) as u8,
-        b'0' + (n / 10 % 10) as u8,
-        b'0' + (n % 10) as u8,
-    ]
-}
-
 impl Text<'_> {
+    // The last two digits of n.
+    #[inline(always)]
+    #[tactic(auto, unfolding(crate::specs::Text::digits))]
+    fn write_pair(&mut self, n: u16)
+        requires { self.old.at + 2 ≤ length self.old.out.now }
+        ensures { Adds self.old (digits 2 n) self.new }
+    {
+        self.write([b'0' + (n / 10 % 10) as u8, b'0' + (n % 10) as u8]);
+    }
+
+    // A number of one digit or two, that there is room for.
+    #[inline(always)]
+    fn write_few(&mut self, n: u16)
+        requires few { n < 100 }
+        requires room { self.old.at + length (decimal_text n) ≤ length self.old.out.now }
+        ensures { Adds self.old (decimal_text n) self.new }
+    {
+        if n < 10 {
+            self.write([b'0' + n as u8]);
+        } else {
+            self.write_pair(n);
+        }
+    }
+
     // A number of up to four digits, that there is room for.
+    #[inline(always)]
     fn write_short(&mut self, n: u16)
         requires few { n < 10000 }
         requires room { self.old.at + length (decimal_text n) ≤ length self.old.out.now }
         ensures { Adds self.old (decimal_text n) self.new }
     {
-        let digits = last_four(n);
-        if n < 10 {
-            self.write(&digits[3..]);
-        } else if n < 100 {
-            self.write(&digits[2..]);
-        } else if n < 1000 {
-            self.write(&digits[1..]);
+        if n < 100 {
+            self.write_few(n);
         } else {
-            self.write(&digits);
+            self.write_few(n / 100);
+            self.write_pair(n % 100);
         }
     }
 
-    // A number that there is room for.
+    // A number that there is room for. Most have eight digits at most, and a way without a call of this function.
     pub(crate) fn write_decimal(&mut self, n: u64)
         requires { self.old.at + length (decimal_text n) ≤ length self.old.out.now }
         ensures { Adds self.old (decimal_text n) self.new }
     {
         if n < 10000 {
             self.write_short(n as u16);
+        } else if n < 100000000 {
+            self.write_short((n / 10000) as u16);
+            self.write_pair((n / 100 % 100) as u16);
+            self.write_pair((n % 100) as u16);
         } else {
-            self.write_decimal(n / 10000);
-            self.write(&last_four((n % 10000) as u16));
+            self.write_decimal(n / 100);
+            self.write_pair((n % 100) as u16);
         }
     }
 
-    // A decimal number. Near the buffer's end it is put aside, and as much of it into the buffer as there is room for.
+    // Near the buffer's end: the number is put aside, and as much of it into the buffer as there is room for.
+    #[cold]
+    #[inline(never)]
+    #[tactic(auto, using(crate::proofs::Numerals::decimal_most))]
+    fn put_aside(&mut self, n: u64)
+        ensures { Adds self.old (decimal_text n) self.new }
+    {
+        let mut room = [0u8; MOST_DIGITS];
+        let mut aside = Text { out: &mut room, at: 0 };
+        aside.write_decimal(n);
+        let used = aside.at;
+        self.put_bytes(&room[..used]);
+    }
+
+    // A decimal number.
     #[tactic(auto, using(crate::proofs::Numerals::decimal_most))]
     pub fn put_decimal(&mut self, n: u64)
         ensures { Adds self.old (decimal_text n) self.new }
@@ -61,11 +86,7 @@ impl Text<'_> {
         if self.has_room(MOST_DIGITS) {
             self.write_decimal(n);
         } else {
-            let mut room = [0u8; MOST_DIGITS];
-            let mut aside = Text { out: &mut room, at: 0 };
-            aside.write_decimal(n);
-            let used = aside.at;
-            self.put_bytes(&room[..used]);
+            self.put_aside(n);
         }
     }
 }

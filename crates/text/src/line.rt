@@ -1,6 +1,7 @@
 // Lines, and the columns of a record's line.
+ghost use Rattle.std.specs.Prelude.{◌≡◌};
 ghost use Rattle.text.specs.Text.{Adds, decimal_text, newline};
-ghost use Rattle.text.specs.Line.{column, refused_columns, columns_of, named_line};
+ghost use Rattle.text.specs.Line.{column, accepted_columns, refused_columns, columns_of, named_line};
 
 use crate::table::HexTable;
 use crate::text::Text;
@@ -31,21 +32,29 @@ impl Text<'_> {
         self.put_newline();
     }
 
-    // The columns of a record's line after its place, accepted or refused. Near the buffer's end those of an accepted
-    // one are put aside, and as much of them into the buffer as there is room for.
+    // Near the buffer's end: the columns are put aside, and as much of them into the buffer as there is room for.
+    #[inline(always)]
+    fn put_accepted(&mut self, a: Answer, table: &HexTable)
+        requires { a.number ≡ 0 }
+        ensures { Adds self.old (accepted_columns a) self.new }
+    {
+        let mut room = [0u8; MOST_COLUMNS];
+        let mut aside = Text { out: &mut room, at: 0 };
+        aside.write_accepted(a, table);
+        let used = aside.at;
+        self.put_bytes(&room[..used]);
+    }
+
+    // The columns of a record's line after its place, accepted or refused.
     pub fn put_columns(&mut self, a: Answer, table: &HexTable)
         ensures { Adds self.old (columns_of a) self.new }
     {
         if a.number != 0 {
             self.put_refused(a.number);
         } else if self.has_room(MOST_COLUMNS) {
-            self.write_accepted(&a, table);
+            self.write_accepted(a, table);
         } else {
-            let mut room = [0u8; MOST_COLUMNS];
-            let mut aside = Text { out: &mut room, at: 0 };
-            aside.write_accepted(&a, table);
-            let used = aside.at;
-            self.put_bytes(&room[..used]);
+            self.put_accepted(a, table);
         }
     }
 

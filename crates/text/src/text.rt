@@ -24,13 +24,13 @@ impl Text<'_> {
 
     // Bytes that there is room for.
     #[inline(always)]
-    pub(crate) fn write(&mut self, s: &[u8])
-        requires { self.old.at + length s.now ≤ length self.old.out.now }
-        ensures { Adds self.old s.now self.new }
+    pub(crate) fn write<const N: usize>(&mut self, bytes: [u8; N])
+        requires { self.old.at + N ≤ length self.old.out.now }
+        ensures { Adds self.old bytes.entry self.new }
     {
-        let end = self.at + s.len();
+        let end = self.at + N;
         let out = &mut *self.out;
-        out[self.at..end].copy_from_slice(s);
+        out[self.at..end].copy_from_slice(&bytes);
         self.at = end;
     }
 

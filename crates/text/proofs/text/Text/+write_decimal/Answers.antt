@@ -1,21 +1,46 @@
 -- `write_decimal` meets its contract, by the number.
+use Prim.Native.Nat.{◌/◌, ◌%◌}
 use native.Mathlib.Omega.{arith}
 use lib.ListN.{length-append}
-use Rattle.text.proofs.Added.{adds_then}
-use Rattle.text.proofs.Numerals.{length_digits, decimal_long}
+use Rattle.text.proofs.Added.{adds_then, adds_same}
+use Rattle.text.proofs.Numerals.{length_digits, decimal_pair, decimal_pairs, pair_last}
 use Rattle.text.proofs.text.Text.+write_decimal.Goals as goal
+
+pub write_short-requires-then-n-lt100000000-clause-room : goal.write_short-requires-then-n-lt100000000-clause-room
+write_short-requires-then-n-lt100000000-clause-room t c =
+    let h = simp (decimal_pairs c.args.n c.if-n-lt10000.false (omega arith), length-append, length_digits) at c.requires in
+    omega (arith, h)
+
+pub write_pair-requires : goal.write_pair-requires
+write_pair-requires t c =
+    let h = simp (decimal_pairs c.args.n c.if-n-lt10000.false (omega arith), length-append, length_digits) at c.requires in
+    omega (arith, h)
+
+pub write_pair-requires-then-n-lt100000000 : goal.write_pair-requires-then-n-lt100000000
+write_pair-requires-then-n-lt100000000 t c =
+    let h = simp (decimal_pairs c.args.n c.if-n-lt10000.false (omega arith), length-append, length_digits) at c.requires in
+    omega (arith, h, length_digits 2 (c.args.n / 100 % 100))
 
 pub write_decimal-requires : goal.write_decimal-requires
 write_decimal-requires t c =
-    let h = rw (decimal_long c.args.n c.if-n-lt10000.false (omega arith), length-append, length_digits) at c.requires in
+    let h = rw (decimal_pair c.args.n (omega arith) (omega arith), length-append, length_digits) at c.requires in
     (omega arith, omega (arith, h))
 
-pub write-requires : goal.write-requires
-write-requires t c =
-    let h = rw (decimal_long c.args.n c.if-n-lt10000.false (omega arith), length-append, length_digits) at c.requires in
+pub write_pair-requires-else-n-lt100000000 : goal.write_pair-requires-else-n-lt100000000
+write_pair-requires-else-n-lt100000000 t c =
+    let h = rw (decimal_pair c.args.n (omega arith) (omega arith), length-append, length_digits) at c.requires in
     omega (arith, h, c.write_decimal.ensures.put.place, c.write_decimal.ensures.length)
 
-pub returns-else-n-lt10000 : goal.returns-else-n-lt10000
-returns-else-n-lt10000 t c =
-    rw (decimal_long c.args.n c.if-n-lt10000.false (omega arith), ← c.last_four.ensures)
-    (adds_then c.write_decimal.ensures c.write.ensures)
+pub returns-then-n-lt100000000 : goal.returns-then-n-lt100000000
+returns-then-n-lt100000000 t c =
+    let n = c.args.n in
+    rw (decimal_pairs n c.if-n-lt10000.false (omega arith))
+    (adds_then
+    (adds_then c.write_short-then-n-lt100000000.ensures (adds_same (pair_last (n / 100)) c.write_pair.ensures))
+    (adds_same (pair_last n) c.write_pair-then-n-lt100000000.ensures))
+
+pub returns-else-n-lt100000000 : goal.returns-else-n-lt100000000
+returns-else-n-lt100000000 t c =
+    let n = c.args.n in
+    rw (decimal_pair n (omega arith) (omega arith))
+    (adds_then c.write_decimal.ensures (adds_same (pair_last n) c.write_pair-else-n-lt100000000.ensures))

@@ -9,12 +9,12 @@ use Rattle.text.proofs.text.Text.write_accepted.Goals as goal
 
 pub write_number-requires : goal.write_number-requires
 write_number-requires c =
-    let a = c.args.a.now in
+    let a = c.args.a in
     omega (arith, length_three a.block_status a.before a.after, length_status a.answered a.status)
 
 pub write_word-requires : goal.write_word-requires
 write_word-requires c =
-    let a = c.args.a.now in
+    let a = c.args.a in
     omega (
       arith,
       length_three a.block_status a.before a.after,
@@ -24,7 +24,7 @@ write_word-requires c =
 
 pub write-requires-2 : goal.write-requires-2
 write-requires-2 c =
-    let a = c.args.a.now in
+    let a = c.args.a in
     omega (
       arith,
       length_three a.block_status a.before a.after,

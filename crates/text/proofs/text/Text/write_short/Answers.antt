@@ -1,50 +1,22 @@
--- `write_short` meets its contract: a number of one digit, of two, three and four.
+-- `write_short` meets its contract: two digits at most, or two behind others.
 use native.Mathlib.Omega.{arith}
-use Rattle.text.specs.Text.{digits}
-use Rattle.text.proofs.Numerals.{decimal_1, decimal_2, decimal_3, decimal_4}
+use lib.ListN.{length-append}
+use Rattle.text.proofs.Added.{adds_then, adds_same}
+use Rattle.text.proofs.Numerals.{length_digits, decimal_pair, pair_last}
 use Rattle.text.proofs.text.Text.write_short.Goals as goal
 
-pub write-requires : goal.write-requires
-unfolding digits
-write-requires c =
-    let h = rw (decimal_1 c.args.n c.if-n-lt10.true) at c.requires.room in rw c.last_four-digits.ensures h
+pub write_few-requires-else-n-lt100-clause-room : goal.write_few-requires-else-n-lt100-clause-room
+write_few-requires-else-n-lt100-clause-room c =
+    let h = rw (decimal_pair c.args.n c.if-n-lt100.false (omega arith), length-append, length_digits) at c.requires.room in
+    omega (arith, h)
 
-pub write-requires-then-n-lt100 : goal.write-requires-then-n-lt100
-unfolding digits
-write-requires-then-n-lt100 c =
-    let h = rw (decimal_2 c.args.n c.if-n-lt10.false c.if-n-lt100.true) at c.requires.room in rw c.last_four-digits.ensures h
+pub write_pair-requires : goal.write_pair-requires
+write_pair-requires c =
+    let h = rw (decimal_pair c.args.n c.if-n-lt100.false (omega arith), length-append, length_digits) at c.requires.room in
+    omega (arith, h)
 
-pub write-requires-then-n-lt1000 : goal.write-requires-then-n-lt1000
-unfolding digits
-write-requires-then-n-lt1000 c =
-    let h = rw (decimal_3 c.args.n c.if-n-lt100.false c.if-n-lt1000.true) at c.requires.room in
-    rw c.last_four-digits.ensures h
-
-pub write-requires-else-n-lt1000 : goal.write-requires-else-n-lt1000
-unfolding digits
-write-requires-else-n-lt1000 c =
-    let h = rw (decimal_4 c.args.n c.if-n-lt1000.false c.requires.few) at c.requires.room in
-    rw c.last_four-digits.ensures h
-
-pub returns-then-n-lt10 : goal.returns-then-n-lt10
-unfolding digits
-returns-then-n-lt10 c =
-    rw (decimal_1 c.args.n c.if-n-lt10.true) (rw c.last_four-digits.ensures at c.write.ensures)
-
-pub returns-then-n-lt100 : goal.returns-then-n-lt100
-unfolding digits
-returns-then-n-lt100 c =
-    rw (decimal_2 c.args.n c.if-n-lt10.false c.if-n-lt100.true)
-    (rw c.last_four-digits.ensures at c.write-then-n-lt100.ensures)
-
-pub returns-then-n-lt1000 : goal.returns-then-n-lt1000
-unfolding digits
-returns-then-n-lt1000 c =
-    rw (decimal_3 c.args.n c.if-n-lt100.false c.if-n-lt1000.true)
-    (rw c.last_four-digits.ensures at c.write-then-n-lt1000.ensures)
-
-pub returns-else-n-lt1000 : goal.returns-else-n-lt1000
-unfolding digits
-returns-else-n-lt1000 c =
-    rw (decimal_4 c.args.n c.if-n-lt1000.false c.requires.few)
-    (rw c.last_four-digits.ensures at c.write-else-n-lt1000.ensures)
+pub returns-else-n-lt100 : goal.returns-else-n-lt100
+returns-else-n-lt100 c =
+    let n = c.args.n in
+    rw (decimal_pair n c.if-n-lt100.false (omega arith))
+    (adds_then c.write_few-else-n-lt100.ensures (adds_same (pair_last n) c.write_pair.ensures))
