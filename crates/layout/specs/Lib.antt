@@ -1,4 +1,3 @@
-pub mod Swapped
 pub mod Fields
 pub mod Layout
 pub mod Writing

@@ -57,8 +57,8 @@ pub fn are_zero(s: &[u8], from: usize, n: usize) -> bool
         .fold(true, |zero, byte| zero & (*byte == 0))
 }
 
-// Whether all bytes from `from` on are zero. The last eight may overlap those before them, so that one shape fits every
-// `from`.
+// Whether all bytes from `from` on are zero, in two pieces of fixed length. The last eight may overlap those before them,
+// so that one shape fits every `from`.
 #[tactic(auto, using(crate::proofs::Parts::rest_zero))]
 fn all_are_zero(s: &[u8; 80], from: usize) -> bool
     requires { (from ≤ 24) × (16 ≤ from) }
