@@ -47,7 +47,8 @@ impl Text<'_> {
         }
     }
 
-    // A number that there is room for. Most have eight digits at most, and a way without a call of this function.
+    // A number that there is room for.
+    #[cycle(decimal)]
     pub(crate) fn write_decimal(&mut self, n: u64)
         requires { self.old.at + length (decimal_text n) ≤ length self.old.out.now }
         ensures { Adds self.old (decimal_text n) self.new }
@@ -59,9 +60,21 @@ impl Text<'_> {
             self.write_pair((n / 100 % 100) as u16);
             self.write_pair((n % 100) as u16);
         } else {
-            self.write_decimal(n / 100);
-            self.write_pair((n % 100) as u16);
+            self.write_long(n);
         }
+    }
+
+    // A number of more digits than most have. Apart, since a function that calls itself saves registers at each call.
+    #[cold]
+    #[inline(never)]
+    #[cycle(decimal)]
+    fn write_long(&mut self, n: u64)
+        requires long { 100 ≤ n }
+        requires room { self.old.at + length (decimal_text n) ≤ length self.old.out.now }
+        ensures { Adds self.old (decimal_text n) self.new }
+    {
+        self.write_decimal(n / 100);
+        self.write_pair((n % 100) as u16);
     }
 
     // Near the buffer's end: the number is put aside, and as much of it into the buffer as there is room for.

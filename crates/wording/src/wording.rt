@@ -1,83 +1,77 @@
-// The label's words and lines into a lent buffer. Each function answers the place after what it puts there.
-ghost use Rattle.text.specs.Text.{Put};
+// The label's words and lines.
+ghost use Rattle.text.specs.Text.{Adds};
 ghost use Rattle.wording.specs.Wording.{kind_name, cell_text, mark_text, marked_text, meet_line, reason_text, refused_line};
 
 use label::one::Sharer;
 use memory::kind::{Kind, kind_numbered};
-use text::line::{put_newline, put_number};
-use text::text::put_bytes;
+use text::text::Text;
 use words::number::{ADDRESS_BEYOND, BAD_SETTINGS, RAM_LENGTH, UNSOUND_STACK};
 
-pub fn put_kind(out: &mut [u8], at: usize, kind: Kind) -> usize
-    ensures { Put out.old at (kind_name kind) out.new result }
+pub fn put_kind(text: &mut Text, kind: Kind)
+    ensures { Adds text.old (kind_name kind) text.new }
 {
     match kind {
-        Kind::Receive => put_bytes(out, at, b"receive"),
-        Kind::Transmit => put_bytes(out, at, b"transmit"),
-        Kind::Broadcast => put_bytes(out, at, b"broadcast"),
+        Kind::Receive => text.put_bytes(b"receive"),
+        Kind::Transmit => text.put_bytes(b"transmit"),
+        Kind::Broadcast => text.put_bytes(b"broadcast"),
     }
 }
 
 // A cell by its kind and its subaddress.
-pub fn put_cell(out: &mut [u8], at: usize, number: u16) -> usize
-    ensures { Put out.old at (cell_text number) out.new result }
+pub fn put_cell(text: &mut Text, number: u16)
+    ensures { Adds text.old (cell_text number) text.new }
 {
-    let next = put_kind(out, at, kind_numbered(number));
-    put_number(out, next, (number % 32) as u64)
+    put_kind(text, kind_numbered(number));
+    text.put_number(u64::from(number % 32));
 }
 
-fn put_mark(out: &mut [u8], at: usize, writes: bool) -> usize
-    ensures { Put out.old at (mark_text writes) out.new result }
+fn put_mark(text: &mut Text, writes: bool)
+    ensures { Adds text.old (mark_text writes) text.new }
 {
     if writes {
-        put_bytes(out, at, b" (writes)")
+        text.put_bytes(b" (writes)");
     } else {
-        put_bytes(out, at, b" (sends)")
+        text.put_bytes(b" (sends)");
     }
 }
 
-fn put_marked(out: &mut [u8], at: usize, sharer: Sharer) -> usize
-    ensures { Put out.old at (marked_text sharer) out.new result }
+fn put_marked(text: &mut Text, sharer: Sharer)
+    ensures { Adds text.old (marked_text sharer) text.new }
 {
-    let next = put_cell(out, at, sharer.cell);
-    put_mark(out, next, sharer.writes)
+    put_cell(text, sharer.cell);
+    put_mark(text, sharer.writes);
 }
 
 // The line of two cells whose windows meet.
-pub fn put_meeting(out: &mut [u8], at: usize, cell: Sharer, other: Sharer) -> usize
-    ensures { Put out.old at (meet_line cell other) out.new result }
+pub fn put_meeting(text: &mut Text, cell: Sharer, other: Sharer)
+    ensures { Adds text.old (meet_line cell other) text.new }
 {
-    let meets = put_marked(out, at, cell);
-    let second = put_bytes(out, meets, b" meets ");
-    let end = put_marked(out, second, other);
-    put_newline(out, end)
+    put_marked(text, cell);
+    text.put_bytes(b" meets ");
+    put_marked(text, other);
+    text.put_newline();
 }
 
-fn put_reason(out: &mut [u8], at: usize, number: u16) -> usize
-    ensures { Put out.old at (reason_text number) out.new result }
+#[tactic(auto, unfolding(crate::specs::Wording::reason_text))]
+fn put_reason(text: &mut Text, number: u16)
+    ensures { Adds text.old (reason_text number) text.new }
 {
-    if number == RAM_LENGTH {
-        return put_bytes(out, at, b"wrong RAM length");
+    match number {
+        RAM_LENGTH => text.put_bytes(b"wrong RAM length"),
+        BAD_SETTINGS => text.put_bytes(b"bad settings"),
+        UNSOUND_STACK => text.put_bytes(b"stack unsound"),
+        ADDRESS_BEYOND => text.put_bytes(b"address beyond the RAM"),
+        _ => text.put_bytes(b"no such sound cell"),
     }
-    if number == BAD_SETTINGS {
-        return put_bytes(out, at, b"bad settings");
-    }
-    if number == UNSOUND_STACK {
-        return put_bytes(out, at, b"stack unsound");
-    }
-    if number == ADDRESS_BEYOND {
-        return put_bytes(out, at, b"address beyond the RAM");
-    }
-    put_bytes(out, at, b"no such sound cell")
 }
 
 // The line of a refusal: of a label, and of the question who put a word where it is.
-pub fn put_refused(out: &mut [u8], at: usize, number: u16) -> usize
-    ensures { Put out.old at (refused_line number) out.new result }
+pub fn put_refused(text: &mut Text, number: u16)
+    ensures { Adds text.old (refused_line number) text.new }
 {
-    let told = put_bytes(out, at, b"refused");
-    let colon = put_number(out, told, number as u64);
-    let why = put_bytes(out, colon, b": ");
-    let end = put_reason(out, why, number);
-    put_newline(out, end)
+    text.put_bytes(b"refused");
+    text.put_number(u64::from(number));
+    text.put_bytes(b": ");
+    put_reason(text, number);
+    text.put_newline();
 }
