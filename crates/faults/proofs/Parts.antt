@@ -1,6 +1,6 @@
 -- Any fault, in three parts: a flag tells one, the count is wrong, or the contents are. That a told fault hides a wrong
 -- count makes no difference to it.
-use mathlib.Core.Path.{◌≡◌, refl, sym}
+use mathlib.Core.Path.{◌≡◌, refl}
 use mathlib.Core.Bool.{Bool, true, false, not, ◌&&◌, ◌||◌, and-true, or-true, or-false}
 use lib.Dec.{eqb}
 use Rattle.records.specs.declared.value.Record.{Record}
@@ -25,14 +25,3 @@ fault_parts broadcast v =
     (has_no_status v || (has_wrong_gap v || has_bad_second v))
     (not (eqb v.count (expected_words v.command)))
     (broadcast && transmits v.command)
-
--- the same of what was worked out, part by part
-pub parts_say :
-    (broadcast : Bool) (v : Record) {told wrong contents late any : Bool} →
-    told ≡ told_fault v →
-    wrong ≡ not (eqb v.count (expected_words v.command)) →
-    contents ≡ (broadcast && transmits v.command) →
-    late ≡ (wrong || contents) →
-    any ≡ (told || late) →
-    any ≡ any_fault (faults_for broadcast v)
-parts_say broadcast v t w c l a = rw (a, l, t, w, c) (sym (fault_parts broadcast v))

@@ -9,23 +9,16 @@ use crate::code::{
 use crate::remembered::{Marks, no_marks, with_inhibit, with_other_bus};
 
 // By the code; the bus is the one that the command came on.
+#[tactic(auto, unfolding(crate::specs::Marks::marks_after))]
 pub fn marks_after(code: u16, second_bus: bool, marks: Marks) -> Marks
     ensures { result ≡ marks_after code second_bus marks }
 {
-    if code == TRANSMITTER_SHUTDOWN {
-        return with_other_bus(marks, second_bus, true);
+    match code {
+        TRANSMITTER_SHUTDOWN => with_other_bus(marks, second_bus, true),
+        OVERRIDE_SHUTDOWN => with_other_bus(marks, second_bus, false),
+        INHIBIT_TERMINAL_FLAG => with_inhibit(marks, true),
+        OVERRIDE_INHIBIT => with_inhibit(marks, false),
+        RESET_TERMINAL => no_marks(),
+        _ => marks,
     }
-    if code == OVERRIDE_SHUTDOWN {
-        return with_other_bus(marks, second_bus, false);
-    }
-    if code == INHIBIT_TERMINAL_FLAG {
-        return with_inhibit(marks, true);
-    }
-    if code == OVERRIDE_INHIBIT {
-        return with_inhibit(marks, false);
-    }
-    if code == RESET_TERMINAL {
-        return no_marks();
-    }
-    marks
 }

@@ -17,10 +17,9 @@ fn first_place(kind: Kind) -> u16
     }
 }
 
+#[tactic(auto, unfolding(crate::specs::Place::mode_place))]
 pub fn mode_place(s: Settings, command: u16) -> u16
     ensures { result ≡ mode_place s command }
 {
-    let kind = kind_of(s, command);
-    let code = command::count_field(command);
-    first_place(kind) + code % 16
+    first_place(kind_of(s, command)) + command::count_field(command) % 16
 }

@@ -3,7 +3,7 @@ ghost use Rattle.std.specs.Prelude.{◌≡◌};
 ghost use Rattle.modes.specs.Remembered.{no_marks, is_shut, with_other_bus, with_inhibit};
 
 // Set and cleared by mode commands: bus A shut, bus B shut, the terminal flag inhibited.
-#[derive(Clone, Copy)]
+#[derive(Clone, Copy, Debug, Default, PartialEq, Eq)]
 pub struct Marks {
     pub shut_a: bool,
     pub shut_b: bool,
@@ -13,11 +13,7 @@ pub struct Marks {
 pub fn no_marks() -> Marks
     ensures { result ≡ no_marks }
 {
-    Marks {
-        shut_a: false,
-        shut_b: false,
-        inhibited: false,
-    }
+    Marks::default()
 }
 
 // Whether the bus that a message came on is shut.
@@ -35,19 +31,21 @@ pub fn is_shut(marks: Marks, second_bus: bool) -> bool
 pub fn with_other_bus(marks: Marks, second_bus: bool, shut: bool) -> Marks
     ensures { result ≡ with_other_bus marks second_bus shut }
 {
-    let mut after = marks;
     if second_bus {
-        after.shut_a = shut;
+        Marks {
+            shut_a: shut,
+            ..marks
+        }
     } else {
-        after.shut_b = shut;
+        Marks {
+            shut_b: shut,
+            ..marks
+        }
     }
-    after
 }
 
 pub fn with_inhibit(marks: Marks, inhibited: bool) -> Marks
     ensures { result ≡ with_inhibit marks inhibited }
 {
-    let mut after = marks;
-    after.inhibited = inhibited;
-    after
+    Marks { inhibited, ..marks }
 }

@@ -2,8 +2,9 @@
 ghost use Rattle.std.specs.Prelude.{◌≡◌};
 ghost use Rattle.modes.specs.Table.{mode_of};
 
-// What the table says of a code; of a reserved one, that it is not defined.
-#[derive(Clone, Copy)]
+// What the table says of a code; of a reserved one, that it is not defined. A flag, and no `Option`: `mode_of` and the
+// laws of the table (`mode_ruled`, `fifteen_defined`) speak of an entry for each code.
+#[derive(Clone, Copy, Debug, PartialEq, Eq)]
 pub struct Mode {
     pub defined: bool,
     pub transmit: bool,
@@ -11,236 +12,110 @@ pub struct Mode {
     pub broadcast: bool,
 }
 
+// A code that the standard leaves open.
+const RESERVED: Mode = Mode {
+    defined: false,
+    transmit: false,
+    word: false,
+    broadcast: false,
+};
+
+// A transmit command that asks one terminal, with no data word.
+const TRANSMIT: Mode = Mode {
+    defined: true,
+    transmit: true,
+    ..RESERVED
+};
+
+// A transmit command that tells one terminal or all of them, with no data word.
+const TRANSMIT_BROADCAST: Mode = Mode {
+    broadcast: true,
+    ..TRANSMIT
+};
+
+// A transmit command that asks one terminal for a data word.
+const TRANSMIT_WORD: Mode = Mode {
+    word: true,
+    ..TRANSMIT
+};
+
+// A receive command that tells one terminal or all of them a data word.
+const RECEIVE_WORD_BROADCAST: Mode = Mode {
+    transmit: false,
+    word: true,
+    ..TRANSMIT_BROADCAST
+};
+
 const MODES: [Mode; 32] = [
     // 0 dynamic bus control
-    Mode {
-        defined: true,
-        transmit: true,
-        word: false,
-        broadcast: false,
-    },
+    TRANSMIT,
     // 1 synchronize
-    Mode {
-        defined: true,
-        transmit: true,
-        word: false,
-        broadcast: true,
-    },
+    TRANSMIT_BROADCAST,
     // 2 transmit status word
-    Mode {
-        defined: true,
-        transmit: true,
-        word: false,
-        broadcast: false,
-    },
+    TRANSMIT,
     // 3 initiate self-test
-    Mode {
-        defined: true,
-        transmit: true,
-        word: false,
-        broadcast: true,
-    },
+    TRANSMIT_BROADCAST,
     // 4 transmitter shutdown
-    Mode {
-        defined: true,
-        transmit: true,
-        word: false,
-        broadcast: true,
-    },
+    TRANSMIT_BROADCAST,
     // 5 override transmitter shutdown
-    Mode {
-        defined: true,
-        transmit: true,
-        word: false,
-        broadcast: true,
-    },
+    TRANSMIT_BROADCAST,
     // 6 inhibit terminal flag
-    Mode {
-        defined: true,
-        transmit: true,
-        word: false,
-        broadcast: true,
-    },
+    TRANSMIT_BROADCAST,
     // 7 override inhibit terminal flag
-    Mode {
-        defined: true,
-        transmit: true,
-        word: false,
-        broadcast: true,
-    },
+    TRANSMIT_BROADCAST,
     // 8 reset remote terminal
-    Mode {
-        defined: true,
-        transmit: true,
-        word: false,
-        broadcast: true,
-    },
+    TRANSMIT_BROADCAST,
     // 9 reserved
-    Mode {
-        defined: false,
-        transmit: false,
-        word: false,
-        broadcast: false,
-    },
+    RESERVED,
     // 10 reserved
-    Mode {
-        defined: false,
-        transmit: false,
-        word: false,
-        broadcast: false,
-    },
+    RESERVED,
     // 11 reserved
-    Mode {
-        defined: false,
-        transmit: false,
-        word: false,
-        broadcast: false,
-    },
+    RESERVED,
     // 12 reserved
-    Mode {
-        defined: false,
-        transmit: false,
-        word: false,
-        broadcast: false,
-    },
+    RESERVED,
     // 13 reserved
-    Mode {
-        defined: false,
-        transmit: false,
-        word: false,
-        broadcast: false,
-    },
+    RESERVED,
     // 14 reserved
-    Mode {
-        defined: false,
-        transmit: false,
-        word: false,
-        broadcast: false,
-    },
+    RESERVED,
     // 15 reserved
-    Mode {
-        defined: false,
-        transmit: false,
-        word: false,
-        broadcast: false,
-    },
+    RESERVED,
     // 16 transmit vector word
-    Mode {
-        defined: true,
-        transmit: true,
-        word: true,
-        broadcast: false,
-    },
+    TRANSMIT_WORD,
     // 17 synchronize with data word
-    Mode {
-        defined: true,
-        transmit: false,
-        word: true,
-        broadcast: true,
-    },
+    RECEIVE_WORD_BROADCAST,
     // 18 transmit last command
-    Mode {
-        defined: true,
-        transmit: true,
-        word: true,
-        broadcast: false,
-    },
+    TRANSMIT_WORD,
     // 19 transmit BIT word
-    Mode {
-        defined: true,
-        transmit: true,
-        word: true,
-        broadcast: false,
-    },
+    TRANSMIT_WORD,
     // 20 selected transmitter shutdown
-    Mode {
-        defined: true,
-        transmit: false,
-        word: true,
-        broadcast: true,
-    },
+    RECEIVE_WORD_BROADCAST,
     // 21 override selected transmitter shutdown
-    Mode {
-        defined: true,
-        transmit: false,
-        word: true,
-        broadcast: true,
-    },
+    RECEIVE_WORD_BROADCAST,
     // 22 reserved
-    Mode {
-        defined: false,
-        transmit: false,
-        word: false,
-        broadcast: false,
-    },
+    RESERVED,
     // 23 reserved
-    Mode {
-        defined: false,
-        transmit: false,
-        word: false,
-        broadcast: false,
-    },
+    RESERVED,
     // 24 reserved
-    Mode {
-        defined: false,
-        transmit: false,
-        word: false,
-        broadcast: false,
-    },
+    RESERVED,
     // 25 reserved
-    Mode {
-        defined: false,
-        transmit: false,
-        word: false,
-        broadcast: false,
-    },
+    RESERVED,
     // 26 reserved
-    Mode {
-        defined: false,
-        transmit: false,
-        word: false,
-        broadcast: false,
-    },
+    RESERVED,
     // 27 reserved
-    Mode {
-        defined: false,
-        transmit: false,
-        word: false,
-        broadcast: false,
-    },
+    RESERVED,
     // 28 reserved
-    Mode {
-        defined: false,
-        transmit: false,
-        word: false,
-        broadcast: false,
-    },
+    RESERVED,
     // 29 reserved
-    Mode {
-        defined: false,
-        transmit: false,
-        word: false,
-        broadcast: false,
-    },
+    RESERVED,
     // 30 reserved
-    Mode {
-        defined: false,
-        transmit: false,
-        word: false,
-        broadcast: false,
-    },
+    RESERVED,
     // 31 reserved
-    Mode {
-        defined: false,
-        transmit: false,
-        word: false,
-        broadcast: false,
-    },
+    RESERVED,
 ];
 
+#[tactic(auto, unfolding(crate::specs::Table::mode_of, crate::specs::Table::modes))]
 pub fn mode_of(code: u16) -> Mode
     ensures { result ≡ mode_of code }
 {
-    let at = (code % 32) as usize;
-    MODES[at]
+    MODES[usize::from(code % 32)]
 }

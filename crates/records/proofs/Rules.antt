@@ -5,7 +5,8 @@ use mathlib.Core.Bool.{true, false, not, ◌&&◌, ◌||◌}
 use lib.Dec.{eqb}
 use borrow.Author.Tests.{eqb-true, eq-eqb, not-false}
 use Rattle.words.specs.Command.{transmits}
-use Rattle.words.proofs.Basics.{yes_or_no, or_left, or_right}
+use Rattle.std.proofs.lemmas.Bool.{cases_Bool}
+use Rattle.words.proofs.Basics.{or_left, or_right}
 use Rattle.records.specs.declared.value.Record.{Record}
 use Rattle.records.specs.Transfer.{is_transfer, transfer_fails, breaks_transfer}
 
@@ -42,9 +43,9 @@ unbroken_of v h =
     ⊎_elim
     (λ (f : transfer_fails v ≡ true). rw (h.receives t, eq-eqb v.count 0 (h.none f), t, f))
     (λ (f : transfer_fails v ≡ false). rw (h.receives t, t, f))
-    (yes_or_no (transfer_fails v)))
+    (cases_Bool (transfer_fails v)))
     (λ (t : is_transfer v ≡ false). rw (t, h.marked t, eq-eqb v.transmit_command 0 (h.bytes t)))
-    (yes_or_no (is_transfer v))
+    (cases_Bool (is_transfer v))
 
 -- a value breaks none of the rules exactly when it keeps each
 pub transfer_rules : (v : Record) → (breaks_transfer v ≡ false) ↔ KeepsTransfer v

@@ -3,13 +3,13 @@ ghost use Rattle.std.specs.Prelude.{◌≡◌};
 ghost use Rattle.records.specs.Value.{zero_value, on_bus_b, has_wrong_sync, has_invalid_word, lasts_zero, keeps_header, keeps_layout};
 
 use crate::transfer::breaks_transfer;
-use words::choose::{both, no};
 
 // The words of a record value.
 pub type Words = [u16; 32];
 
-// A message record as a value. It can hold what breaks the layout, since the writer refuses such a value.
-#[derive(Clone, Copy)]
+// A message record as a value. It can hold what breaks the layout, since the writer refuses such a value: `count` is a
+// number of the record, up to 33 and over, and no length of `words`.
+#[derive(Clone, Copy, Debug, Default, PartialEq, Eq)]
 pub struct Record {
     pub command: u16,
     // of the terminal that transmits in an RT-to-RT transfer; else 0
@@ -23,14 +23,7 @@ pub struct Record {
 pub fn zero_value() -> Record
     ensures { result ≡ zero_value }
 {
-    Record {
-        command: 0,
-        transmit_command: 0,
-        tag: 0,
-        flags: 0,
-        count: 0,
-        words: [0; 32],
-    }
+    Record::default()
 }
 
 pub fn bus_b(v: Record) -> bool
@@ -52,28 +45,22 @@ pub fn invalid_word(v: Record) -> bool
 }
 
 // Whether the words from `count` on are zero.
-fn lasts_zero(words: [u16; 32], count: u8) -> bool
-    ensures { result ≡ lasts_zero words count 32 }
+fn lasts_zero(words: &Words, count: u8) -> bool
+    ensures { result ≡ lasts_zero words.now count 32 }
 {
-    let mut ok = true;
-    let mut i: usize = count as usize;
-    while i < 32 {
-        ok = both(ok, words[i] == 0);
-        i += 1;
-    }
-    ok
+    words.iter().skip(usize::from(count)).all(|&word| word == 0)
 }
 
 // The rules of a record but for its words, which the reader tests as bytes.
 pub fn keeps_header(v: Record) -> bool
     ensures { result ≡ keeps_header v }
 {
-    both(both(v.flags <= 127, v.count <= 33), no(breaks_transfer(v)))
+    v.flags <= 127 && v.count <= 33 && !breaks_transfer(v)
 }
 
+#[tactic(auto, unfolding(crate::specs::Value::keeps_layout))]
 pub fn keeps_layout(v: Record) -> bool
     ensures { result ≡ keeps_layout v }
 {
-    let words = v.words;
-    both(keeps_header(v), lasts_zero(words, v.count))
+    keeps_header(v) && lasts_zero(&v.words, v.count)
 }
