@@ -1,25 +1,23 @@
 -- What it tells that the stack is sound, as named facts and back again; and with a listed size, that the four words of
 -- a descriptor lie in a row in the block, and that the pointer moved on by 4 is sound in the same block.
+use Rattle.std.proofs.Common.{rules}
 use Prim.Native.Nat.{ℕ, ◌+◌, ◌%◌, ◌≤◌, ◌<◌}
 use native.Mathlib.Omega.{arith}
 use native.Mathlib.Nat.{mod-lt, mod-le, mod-mod_of_dvd, dvd_of_mod-eq-zero}
 use mathlib.Core.Path.{◌≡◌, ◌∙◌}
-use mathlib.Core.Logic.{⊎_elim}
-use mathlib.Core.Bool.{true, false, not, ◌&&◌}
+use mathlib.Core.Bool.{true, false}
 use mathlib.Core.List.{List}
 use lib.ListN.{length}
-use lib.Dec.{leb, eqb}
-use borrow.Author.Tests.{leb-true, eqb-true, le-leb, lt-leb, eq-eqb, not-true}
+use borrow.Author.Tests.{lt-leb}
 use Rattle.words.specs.declared.settings.Settings.{Settings}
 use Rattle.words.specs.Settings.{settings_refused}
 use Rattle.words.proofs.SettingsLaws.{settings_agreed}
-use Rattle.words.proofs.Basics.{and_left, and_right}
-use Rattle.windows.specs.Window.{aligned, place_of, rolls_over, meets_fixed, fits_below}
+use Rattle.windows.specs.Window.{aligned, place_of, rolls_over, meets_fixed}
 use Rattle.cells.specs.Stack.{stack_pointer, stack_window, stack_sound}
 use Rattle.windows.proofs.Wrap.{place_from, place_below, place_straight, aligned_pointer, aligned_size, aligned_same, SameRun}
 use Rattle.windows.proofs.Meets.{Outside}
 use Rattle.memory.proofs.Places.{OrdinaryAddress}
-use Rattle.cells.proofs.Sound.{OffFixed, fixed_off, off_fixed, ordinary_address}
+use Rattle.cells.proofs.Sound.{OffFixed, ordinary_address}
 
 -- the sentence "The stack is sound if ..", fact by fact
 pub record StackSound (ram : List ℕ) (s : Settings) : Type 0 where
@@ -30,32 +28,12 @@ pub record StackSound (ram : List ℕ) (s : Settings) : Type 0 where
 
 module _ (ram : List ℕ) (s : Settings) where
   pub stack_sound_facts : stack_sound ram s ≡ true → StackSound ram s
-  unfolding stack_sound
-  stack_sound_facts e =
-      let p = stack_pointer ram s in
-      let w = stack_window ram s in
-      let placed = eqb (p % 4) 0 && leb (p + 4) (length ram) in
-      let blocked = fits_below w (length ram) && not (meets_fixed w) in
-      let a : placed ≡ true = and_left placed blocked e in
-      let b : blocked ≡ true = and_right placed blocked e in
-      record {
-        multiple = eqb-true _ _ (and_left (eqb (p % 4) 0) (leb (p + 4) (length ram)) a);
-        pointer = leb-true _ _ (and_right (eqb (p % 4) 0) (leb (p + 4) (length ram)) a);
-        inside = leb-true _ _ (and_left (fits_below w (length ram)) (not (meets_fixed w)) b);
-        fixed = fixed_off w (not-true _ (and_right (fits_below w (length ram)) (not (meets_fixed w)) b));
-      }
+  unfolding stack_sound meets_fixed
+  stack_sound_facts e = search rules
 
   pub stack_facts_sound : StackSound ram s → stack_sound ram s ≡ true
-  unfolding stack_sound
-  stack_facts_sound f =
-      let p = stack_pointer ram s in
-      let w = stack_window ram s in
-      rw (
-        eq-eqb (p % 4) 0 f.multiple,
-        le-leb (p + 4) (length ram) f.pointer,
-        le-leb (w.start + w.size) (length ram) f.inside,
-        off_fixed w f.fixed,
-      )
+  unfolding stack_sound meets_fixed
+  stack_facts_sound f = search rules
 
 -- every address of a sound stack's block is ordinary
 pub stack_address :
@@ -77,9 +55,7 @@ pub record WholeEntries (n : ℕ) : Type 0 where
   pub fours : n % 4 ≡ 0
 
 pub size_whole : (s : Settings) → settings_refused s ≡ false → WholeEntries s.stack_size
-size_whole s h =
-    ⊎_elim (⊎_elim (λ e. omega arith) (λ e. omega arith)) (⊎_elim (λ e. omega arith) (λ e. omega arith))
-    (settings_agreed s h).size
+size_whole s h = grind (arith, settings_agreed s h)
 
 -- the stack pointer's offset in a block of n words: a multiple of 4
 pub record Offset (n o : ℕ) : Type 0 where
@@ -93,7 +69,7 @@ module _ (n : ℕ) (z : WholeEntries n) where
 
   -- four words fit behind it
   pub entry_fits : (o : ℕ) → Offset n o → o + 4 ≤ n
-  entry_fits o h = omega (arith, z.fours, h.below, h.fours)
+  entry_fits o h = search rules
 
 module _ (p n : ℕ) (m : p % 4 ≡ 0) (z : WholeEntries n) where
   pointer_fits : (aligned p n).offset + 4 ≤ (aligned p n).size

@@ -1,12 +1,12 @@
 -- The sizes of the windows that a control word gives, and that the window of a moved pointer is the same window.
-use Prim.Native.Nat.{ℕ, ◌+◌, ◌^◌, ◌≤◌, ◌<◌}
+use Rattle.std.proofs.Common.{rules}
+use Prim.Native.Nat.{ℕ, ◌+◌, ◌≤◌, ◌<◌}
 use native.Mathlib.Omega.{arith}
 use mathlib.Core.Path.{◌≡◌, refl}
 use mathlib.Core.Logic.{⊎_elim}
 use mathlib.Core.Bool.{Bool, true, false, cond}
 use mathlib.Core.List.{List}
 use lib.Dec.{eqb}
-use lib.Pow.{pow_mono}
 use borrow.Author.Tests.{eqb-false}
 use Rattle.words.specs.declared.settings.Area.{Area}
 use Rattle.words.proofs.Basics.{yes_or_no}
@@ -44,7 +44,7 @@ pub window_room : (s : Scheme) (p : ℕ) → Sized s → 32 ≤ (window_of s p).
 unfolding window_of run_from aligned
 window_room s p single = omega arith
 window_room s p double = omega arith
-window_room s p (circular m l h) = let e : 2 ^ 1 ≤ 2 ^ m = pow_mono l in omega arith
+window_room s p (circular m l h) = search rules
 
 pub window_nonempty : (s : Scheme) (p : ℕ) → Sized s → 0 < (window_of s p).size
 window_nonempty s p z = omega (arith, window_room s p z)

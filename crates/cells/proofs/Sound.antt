@@ -1,21 +1,16 @@
 -- What it tells that a cell is sound, as named facts and back again, and what follows for each place of its window.
+use Rattle.std.proofs.Common.{rules}
 use Prim.Native.Nat.{ℕ, ◌+◌, ◌%◌, ◌^◌, ◌≤◌, ◌<◌}
 use native.Mathlib.Omega.{arith}
-use mathlib.Core.Path.{◌≡◌, refl}
-use mathlib.Core.Logic.{⊎_elim}
-use mathlib.Core.Bool.{true, false, not, ◌&&◌, ◌||◌}
-use lib.Dec.{ltb}
+use mathlib.Core.Path.{◌≡◌}
+use mathlib.Core.Bool.{true, false}
 use lib.Pow.{pow_mono}
-use borrow.Author.Tests.{ltb-true, leb-true, eqb-true, lt-ltb, le-leb, eq-eqb, not-true}
-use Rattle.words.proofs.Basics.{yes_or_no, and_left, and_right, or_left, or_right, or_neither}
-use Rattle.cells.specs.declared.cell.Scheme.{Scheme}
-use Rattle.cells.specs.declared.cell.Scheme.TheVariants.{Single, Double, Circular}
+use Rattle.cells.specs.declared.cell.Scheme.TheVariants.{Double, Circular}
 use Rattle.cells.specs.declared.cell.Cell.{Cell}
 use Rattle.windows.specs.declared.window.Window.{Window}
-use Rattle.windows.specs.Window.{place_of, meets, meets_fixed, windows_meet, fits_below}
+use Rattle.windows.specs.Window.{aligned, place_of, meets, meets_fixed, windows_meet}
 use Rattle.cells.specs.Cell.{size_of, double_fits, window_of, cell_window, sound_cell}
-use Rattle.windows.proofs.Wrap.{place_from, place_below, aligned_size, SameRun}
-use Rattle.windows.proofs.Meets.{nothing_shared}
+use Rattle.windows.proofs.Wrap.{place_from, place_below, SameRun}
 use Rattle.memory.proofs.Places.{OrdinaryAddress}
 use Rattle.cells.proofs.Sizes.{Sized, window_nonempty}
 
@@ -23,29 +18,6 @@ use Rattle.cells.proofs.Sizes.{Sized, window_nonempty}
 pub record OffFixed (w : Window) : Type 0 where
   pub tables : meets w.start w.size 0x100 0x148 ≡ false
   pub illegal : meets w.start w.size 0x300 0x100 ≡ false
-
-pub fixed_off : (w : Window) → meets_fixed w ≡ false → OffFixed w
-unfolding meets_fixed
-fixed_off w e =
-    record {
-      tables = or_left (meets w.start w.size 0x100 0x148) (meets w.start w.size 0x300 0x100) e;
-      illegal = or_right (meets w.start w.size 0x100 0x148) (meets w.start w.size 0x300 0x100) e;
-    }
-
-pub off_fixed : (w : Window) → OffFixed w → meets_fixed w ≡ false
-unfolding meets_fixed
-off_fixed w f = or_neither _ _ f.tables f.illegal
-
--- "a double pointer is a multiple of 32"
-pub double_multiple : (s : Scheme) (p : ℕ) → double_fits s p ≡ true → s ≡ Double → p % 32 ≡ 0
-unfolding double_fits
-double_multiple s p h e = eqb-true (p % 32) 0 (rw e at h)
-
-pub multiple_double : (s : Scheme) (p : ℕ) → (s ≡ Double → p % 32 ≡ 0) → double_fits s p ≡ true
-unfolding double_fits
-multiple_double Single p h = refl
-multiple_double Double p h = eq-eqb (p % 32) 0 (h refl)
-multiple_double (Circular n) p h = refl
 
 -- the sentence "A cell is sound if ..", fact by fact; `block` is the stack's window
 pub record CellSound (words : ℕ) (block : Window) (c : Cell) : Type 0 where
@@ -57,50 +29,19 @@ pub record CellSound (words : ℕ) (block : Window) (c : Cell) : Type 0 where
 
 module _ (words : ℕ) (block : Window) (c : Cell) where
   pub sound_cell_facts : sound_cell words block c ≡ true → CellSound words block c
-  unfolding sound_cell
-  sound_cell_facts e =
-      let w = cell_window c in
-      let in-ram = ltb c.pointer words && fits_below w words in
-      let fits = in-ram && double_fits c.scheme c.pointer in
-      let apart : (meets_fixed w || windows_meet w block) ≡ false = not-true _ (and_right fits (not (meets_fixed w || windows_meet w block)) e) in
-      let a : fits ≡ true = and_left fits (not (meets_fixed w || windows_meet w block)) e in
-      let b : in-ram ≡ true = and_left in-ram (double_fits c.scheme c.pointer) a in
-      record {
-        pointer = ltb-true _ _ (and_left (ltb c.pointer words) (fits_below w words) b);
-        inside = leb-true _ _ (and_right (ltb c.pointer words) (fits_below w words) b);
-        double = double_multiple c.scheme c.pointer (and_right in-ram (double_fits c.scheme c.pointer) a);
-        fixed = fixed_off w (or_left (meets_fixed w) (windows_meet w block) apart);
-        stack = or_right (meets_fixed w) (windows_meet w block) apart;
-      }
+  unfolding sound_cell meets_fixed double_fits
+  sound_cell_facts e = search rules
 
   pub cell_facts_sound : CellSound words block c → sound_cell words block c ≡ true
-  unfolding sound_cell
-  cell_facts_sound f =
-      let w = cell_window c in
-      rw (
-        lt-ltb c.pointer words f.pointer,
-        le-leb (w.start + w.size) words f.inside,
-        multiple_double c.scheme c.pointer f.double,
-        off_fixed w f.fixed,
-        f.stack,
-      )
+  unfolding sound_cell meets_fixed double_fits
+  cell_facts_sound f = search rules
 
 -- a circle as large as RAM is never sound: its window would be all of RAM, and the fixed areas are in it
 pub never_sound :
     (words : ℕ) (block : Window) (c : Cell) (m : ℕ) → 0x400 ≤ words → words ≤ size_of m → c.scheme ≡ Circular (size_of m) →
     sound_cell words block c ≡ false
-unfolding window_of
-never_sound words block c m h l e =
-    let w = cell_window c in
-    let z : w.size ≡ size_of m = rw e (aligned_size c.pointer (size_of m)) in
-    ⊎_elim
-    (λ sound.
-    let f = sound_cell_facts words block c sound in
-    let i = f.inside in
-    absurd
-    (nothing_shared w.start w.size 0x100 0x148 f.fixed.tables 0x100 (omega arith) (omega arith) (omega arith) (omega arith)))
-    (λ not. not)
-    (yes_or_no (sound_cell words block c))
+unfolding window_of aligned sound_cell meets_fixed meets
+never_sound words block c m h l e = search rules
 
 -- "So m = 6 and 7 are never sound here."
 pub never_sound_here :
@@ -112,12 +53,8 @@ never_sound_here block c m h e =
 pub ordinary_address :
     (words : ℕ) (w : Window) → w.start + w.size ≤ words → OffFixed w → (x : ℕ) → w.start ≤ x →
     x < w.start + w.size → OrdinaryAddress words x
-ordinary_address words w i f x l h =
-    record {
-      inside = omega arith;
-      tables = λ p q. nothing_shared w.start w.size 0x100 0x148 f.tables x l h p (omega arith);
-      illegal = λ p q. nothing_shared w.start w.size 0x300 0x100 f.illegal x l h p (omega arith);
-    }
+unfolding meets
+ordinary_address words w i f x l h = search rules
 
 -- an ordinary address that is not in the stack's block
 pub record FreeAddress (words : ℕ) (block : Window) (x : ℕ) : Type 0 where
@@ -129,12 +66,8 @@ module _ (words : ℕ) (block : Window) (c : Cell) (f : CellSound words block c)
   pub sound_address :
       (x : ℕ) → (cell_window c).start ≤ x → x < (cell_window c).start + (cell_window c).size →
       FreeAddress words block x
-  sound_address x l h =
-      let w = cell_window c in
-      record {
-        ordinary = ordinary_address words w f.inside f.fixed x l h;
-        stack = nothing_shared w.start w.size block.start block.size f.stack x l h;
-      }
+  unfolding meets
+  sound_address x l h = search rules
 
   -- so every place is
   pub sound_place : Sized c.scheme → (k : ℕ) → FreeAddress words block (place_of (cell_window c) k)
@@ -144,14 +77,7 @@ module _ (words : ℕ) (block : Window) (c : Cell) (f : CellSound words block c)
 
   -- the stack's pointer may move in its block
   pub sound_block : (other : Window) → SameRun other block → CellSound words other c
-  sound_block other e =
-      record {
-        pointer = f.pointer;
-        inside = f.inside;
-        double = f.double;
-        fixed = f.fixed;
-        stack = rw (e.start, e.size) f.stack;
-      }
+  sound_block other e = search rules
 
 -- a cell whose window is the same, with the pointer in it, is as sound
 pub sound_same :
@@ -162,12 +88,4 @@ pub sound_same :
     d.pointer < (cell_window c).start + (cell_window c).size →
     (c.scheme ≡ Double → d.pointer % 32 ≡ 0) →
     CellSound long block d
-sound_same long block c d f e k l m =
-    record {
-      pointer = omega (arith, f.inside);
-      inside = rw (k.start, k.size) f.inside;
-      double = λ h. m (cc);
-      fixed =
-          record { tables = rw (k.start, k.size) f.fixed.tables; illegal = rw (k.start, k.size) f.fixed.illegal };
-      stack = rw (k.start, k.size) f.stack;
-    }
+sound_same long block c d f e k l m = search rules

@@ -108,7 +108,7 @@ pub fn cell_at(ram: &[u16], area: Area, kind: Kind, subaddress: u16) -> Cell
     cell_from(kind, subaddress, lookup_at(ram, area, kind, subaddress))
 }
 
-// A way for each kind: its places and its bits are then fixed.
+// A way for each kind: its places and its bits are then fixed, up to 10 instructions less (`docs/BENCH.md`).
 fn lookup_for(ram: &[u16], area: Area, kind: Kind, subaddress: u16) -> Lookup
     ensures { result ≡ lookup_at ram.now area kind subaddress }
 {
@@ -119,7 +119,8 @@ fn lookup_for(ram: &[u16], area: Area, kind: Kind, subaddress: u16) -> Lookup
     }
 }
 
-// The same cell, for whoever asks often for cells of one kind, or for one cell.
+// The same cell, for whoever asks often for cells of one kind, or for one cell. A twin of `cell_at`, since a way for each
+// kind is measured as faster.
 #[tactic(auto, unfolding(crate::specs::Cell::cell_at))]
 pub fn cell_by_kind(ram: &[u16], area: Area, kind: Kind, subaddress: u16) -> Cell
     ensures { result ≡ cell_at ram.now area kind subaddress }
@@ -150,7 +151,7 @@ fn double_fits(scheme: Scheme, pointer: u16) -> bool
     }
 }
 
-// Over the cell and its window, for whoever has worked it out.
+// Over the cell and its window, for whoever has worked it out. The tests stop at the first that fails.
 pub fn sound_within(words: usize, stack: Window, c: Cell, w: Window) -> bool
     ensures { result ≡ sound_within words stack c w }
 {

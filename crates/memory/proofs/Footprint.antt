@@ -1,12 +1,13 @@
 -- What a list of writes leaves alone, and what it leaves behind.
-use Prim.Native.Nat.{ℕ, zero, suc, ◌≤◌, ◌<◌}
+use Rattle.std.proofs.lemmas.Grind.{common_steps}
+use Prim.Native.Nat.{ℕ, zero, suc, ◌<◌}
 use native.Mathlib.Omega.{arith}
-use mathlib.Core.Path.{◌≡◌, refl, sym, ◌∙◌}
+use mathlib.Core.Path.{◌≡◌, refl, ◌∙◌}
 use mathlib.Core.Logic.{⊎_elim}
 use mathlib.Core.List.{List, [], ◌∷◌, ◌++◌}
 use lib.ListN.{length, get_or, set, length-set}
-use lib.Seq.{get_or-set_same, get_or-set_other, set_out}
-use Rattle.words.proofs.Basics.{lt_or_ge, eq_or_ne}
+use lib.Seq.{get_or-set_same, get_or-set_other}
+use Rattle.words.proofs.Basics.{eq_or_ne}
 use Rattle.memory.specs.Rows.{row, Each}
 use Rattle.memory.specs.Writes.{Write, apply_writes, writes_to}
 use Rattle.memory.proofs.Rows.{each_append, each_row}
@@ -34,15 +35,7 @@ avoids_places a place word n h = each_row (λ (x : Write). a ≡ x.at → ⊥) (
 -- one write puts the same word into two RAMs of one length
 set_same_at :
     (a i w : ℕ) (m n : List ℕ) → length m ≡ length n → get_or m a 0 ≡ get_or n a 0 → get_or (set m i w) a 0 ≡ get_or (set n i w) a 0
-set_same_at a i w m n l e =
-    ⊎_elim
-    (λ (q : a ≡ i).
-    ⊎_elim
-    (λ (h : i < length m). rw q (get_or-set_same m i w 0 h ∙ sym (get_or-set_same n i w 0 (omega arith))))
-    (λ (h : length m ≤ i). rw (set_out m i w h, set_out n i w (omega arith)) e)
-    (lt_or_ge i (length m)))
-    (λ (q : a ≡ i → ⊥). get_or-set_other m i a w 0 q ∙ e ∙ sym (get_or-set_other n i a w 0 q))
-    (eq_or_ne a i)
+set_same_at a i w m n l e = grind (arith, common_steps)
 
 -- a list of writes leaves the same word at an address of two RAMs, where the same word was
 pub same_at :

@@ -1,11 +1,9 @@
 -- The number of a cell tells its kind and its subaddress, and is below 96.
-use Prim.Native.Nat.{ℕ, ◌+◌, ◌*◌, ◌%◌, ◌≤◌, ◌<◌}
+use Prim.Native.Nat.{ℕ, ◌%◌, ◌<◌}
 use native.Mathlib.Omega.{arith}
+use Rattle.std.proofs.Common.{rules}
 use mathlib.Core.Path.{◌≡◌}
-use mathlib.Core.Logic.{⊎_elim}
-use borrow.Author.Tests.{lt-ltb, le-ltb}
 use Rattle.words.specs.Command.{subaddress_of}
-use Rattle.words.proofs.Basics.{lt_or_ge}
 use Rattle.words.proofs.Commands.{subaddress_small}
 use Rattle.memory.specs.declared.kind.Kind.{Kind}
 use Rattle.memory.specs.declared.kind.Kind.TheVariants.{Receive, Transmit, Broadcast}
@@ -19,9 +17,9 @@ number_sub Broadcast sub h = omega arith
 
 pub number_kind : (kind : Kind) (sub : ℕ) → sub < 32 → kind_numbered (cell_number kind sub) ≡ kind
 unfolding cell_number kind_numbered
-number_kind Receive sub h = rw (lt-ltb (32 * 0 + sub) 32 (omega arith))
-number_kind Transmit sub h = rw (le-ltb (32 * 1 + sub) 32 (omega arith), lt-ltb (32 * 1 + sub) 64 (omega arith))
-number_kind Broadcast sub h = rw (le-ltb (32 * 2 + sub) 32 (omega arith), le-ltb (32 * 2 + sub) 64 (omega arith))
+number_kind Receive sub h = search rules
+number_kind Transmit sub h = search rules
+number_kind Broadcast sub h = search rules
 
 pub number_below : (kind : Kind) (sub : ℕ) → sub < 32 → cell_number kind sub < 96
 unfolding cell_number
@@ -32,15 +30,7 @@ number_below Broadcast sub h = omega arith
 -- and they tell its number
 pub number_back : (n : ℕ) → n < 96 → cell_number (kind_numbered n) (n % 32) ≡ n
 unfolding kind_numbered cell_number
-number_back n h =
-    ⊎_elim
-    (λ (l : n < 32). rw (lt-ltb n 32 l) (omega arith))
-    (λ (l : 32 ≤ n).
-    ⊎_elim
-    (λ (g : n < 64). rw (le-ltb n 32 l, lt-ltb n 64 g) (omega arith))
-    (λ (g : 64 ≤ n). rw (le-ltb n 32 l, le-ltb n 64 g) (omega arith))
-    (lt_or_ge n 64))
-    (lt_or_ge n 32)
+number_back n h = search rules
 
 -- cells that differ in kind or subaddress have different numbers
 pub number_differs :

@@ -2,20 +2,15 @@
 -- them.
 use Prim.Native.Nat.{ℕ, ◌≤◌, ◌<◌}
 use native.Mathlib.Omega.{arith}
+use Rattle.std.proofs.Common.{rules}
 use mathlib.Core.Path.{◌≡◌}
-use mathlib.Core.Logic.{⊎_elim}
-use mathlib.Core.Bool.{Bool, true, false, ◌||◌}
-use lib.Dec.{eqb}
-use borrow.Author.Tests.{eqb-true, not-false}
+use mathlib.Core.Bool.{Bool, false}
 use Rattle.words.specs.declared.settings.Area.{Area}
 use Rattle.words.specs.declared.settings.Area.TheVariants.{A, B}
-use Rattle.words.specs.Command.{transmits}
 use Rattle.memory.specs.declared.kind.Kind.{Kind}
 use Rattle.memory.specs.declared.kind.Kind.TheVariants.{Receive, Transmit, Broadcast}
 use Rattle.memory.specs.Map.{ram_refused, stack_pointer_place, lookup_table, lookup_place, control_place, busy_place, illegal_place}
 use Rattle.memory.specs.Kind.{kind_number}
-use Rattle.words.proofs.Basics.{yes_or_no}
-use Rattle.words.proofs.BitLaws.{bit_small}
 
 pub record Between (low high x : ℕ) : Type 0 where
   pub from : low ≤ x
@@ -48,12 +43,12 @@ stack_pointer_between B = omega arith
 
 pub busy_between : (own : Bool) (command : ℕ) → Between 0x240 0x247 (busy_place own command)
 unfolding busy_place
-busy_between own command = omega (arith, bit_small own, bit_small (transmits command))
+busy_between own command = search rules
 
 -- the illegal words in 0300-03FF
 pub illegal_between : (own : Bool) (command : ℕ) → Between 0x300 0x3FF (illegal_place own command)
 unfolding illegal_place
-illegal_between own command = omega (arith, bit_small own, bit_small (transmits command))
+illegal_between own command = search rules
 
 -- different cells have different lookup words, and no lookup word is a control word or the stack pointer
 pub lookup_differs : (area : Area) (i j : ℕ) → lookup_place area i ≡ lookup_place area j → i ≡ j
@@ -75,13 +70,7 @@ control_not_stack_pointer area sub e = omega (arith, table_between area, stack_p
 -- RAM of an accepted length has all the fixed areas, and a 16-bit word holds each of its addresses
 pub ram_between : (words : ℕ) → ram_refused words ≡ false → (0x400 ≤ words) × (words ≤ 65536)
 unfolding ram_refused
-ram_between words e =
-    ⊎_elim
-    (λ (small : eqb words 4096 ≡ true). let q = eqb-true words 4096 small in (omega arith, omega arith))
-    (λ (other : eqb words 4096 ≡ false).
-    let large : eqb words 65536 ≡ true = rw other at (not-false (eqb words 4096 || eqb words 65536) e) in
-    let q = eqb-true words 65536 large in (omega arith, omega arith))
-    (yes_or_no (eqb words 4096))
+ram_between words e = search rules
 
 -- an address that is in RAM and in no fixed area
 pub record OrdinaryAddress (words x : ℕ) : Type 0 where
@@ -92,7 +81,7 @@ pub record OrdinaryAddress (words x : ℕ) : Type 0 where
 -- no ordinary address is a place of the map
 module _ (words x : ℕ) (f : OrdinaryAddress words x) where
   not_tables : (p : ℕ) → 0x100 ≤ p → p ≤ 0x247 → p ≡ x → ⊥
-  not_tables p l h e = f.tables (omega arith) (omega arith)
+  not_tables p l h e = search rules
 
   pub ordinary_not_lookup : (area : Area) (cell : ℕ) → cell < 96 → lookup_place area cell ≡ x → ⊥
   ordinary_not_lookup area cell h =

@@ -10,12 +10,14 @@ pub fn item_or<T: Copy>(items: &[T], at: usize, other: T) -> T
     items.get(at).copied().unwrap_or(other)
 }
 
+// The word at a place, 0 past the end.
 pub fn word_at(ram: &[u16], at: usize) -> u16
     ensures { result ≡ get_or ram.now at 0 }
 {
     item_or(ram, at, 0)
 }
 
+// An index after a test, since `get_mut` of a slice tells a proof the length alone.
 pub fn put<T: Copy>(ram: &mut [T], at: usize, word: T)
     ensures { ram.new ≡ set ram.old at word }
 {

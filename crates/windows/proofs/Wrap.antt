@@ -1,34 +1,14 @@
 -- Wrapping inside a window, once over the size: a place lies in its window, places in a row differ, and the place after
 -- k agrees with the rollover test. Then the blocks that are aligned, the single window and the double one.
+use Rattle.std.proofs.Common.{rules}
+use Rattle.std.proofs.lemmas.Grind.{common_steps}
 use Prim.Native.Nat.{ℕ, ◌+◌, ◌-◌, ◌*◌, ◌/◌, ◌%◌, ◌≤◌, ◌<◌}
-use native.Mathlib.Nat.{mod-lt, mod-le, mod-eq_of_lt, mod-eq-sub-mod, mod-add-mod, div-add-mod, mul-add-mod_self_left}
+use native.Mathlib.Nat.{mod-lt, mod-le, mod-eq_of_lt, div-add-mod, mul-add-mod_self_left}
 use native.Mathlib.Omega.{arith}
 use mathlib.Core.Path.{◌≡◌, refl, sym, ap, ◌∙◌}
-use mathlib.Core.Logic.{⊎_elim}
 use mathlib.Core.Bool.{true, false}
-use borrow.Author.Tests.{leb-true, leb-false}
-use Rattle.words.proofs.Basics.{lt_or_ge}
 use Rattle.windows.specs.declared.window.Window.{Window}
 use Rattle.windows.specs.Window.{run_from, aligned, place_of, rolls_over}
-
--- remainders over plain numbers
-
--- one step past the size comes back by the size
-mod_back : (x n : ℕ) → n ≤ x → x < n + n → x % n + n ≡ x
-mod_back x n l h =
-    let d : x - n < n = omega arith in
-    let e : x % n ≡ x - n = mod-eq-sub-mod l ∙ mod-eq_of_lt d in
-    omega arith
-
--- a step of less than the size changes the remainder
-mod_moves : (a d n : ℕ) → 0 < d → d < n → (a + d) % n ≡ a % n → ⊥
-mod_moves a d n p h e =
-    let r : a % n < n = mod-lt a (omega arith) in
-    let s : (a % n + d) % n ≡ a % n = mod-add-mod a n d ∙ e in
-    ⊎_elim
-    (λ (l : a % n + d < n). omega (arith, mod-eq_of_lt l))
-    (λ (l : n ≤ a % n + d). omega (arith, mod_back (a % n + d) n l (omega arith)))
-    (lt_or_ge (a % n + d) n)
 
 -- a number in the block of p has the block's start
 block_start : (p n q : ℕ) → p - p % n ≤ q → q < p - p % n + n → q % n ≡ q - (p - p % n)
@@ -48,27 +28,24 @@ module _ (w : Window) where
 
   pub place_below : (k : ℕ) → 0 < w.size → place_of w k < w.start + w.size
   unfolding place_of
-  place_below k h = omega (arith, mod-lt (w.offset + k) h)
+  place_below k h = search rules
 
   -- k places in a row are different while k is at most the size
   pub places_differ : (i j : ℕ) → i < j → j < i + w.size → place_of w i ≡ place_of w j → ⊥
   unfolding place_of
-  places_differ i j l h e =
-      let f : w.offset + i + (j - i) ≡ w.offset + j = omega arith in
-      let g : (w.offset + j) % w.size ≡ (w.offset + i) % w.size = omega arith in
-      mod_moves (w.offset + i) (j - i) w.size (omega arith) (omega arith) (rw f g)
+  places_differ i j l h e = grind (arith, common_steps)
 
   -- where the rollover test says no, the place is straight on
   pub place_straight : (k : ℕ) → rolls_over w k ≡ false → place_of w k ≡ w.start + (w.offset + k)
   unfolding place_of rolls_over
-  place_straight k e = rw (mod-eq_of_lt (leb-false _ _ e))
+  place_straight k e = search rules
 
   -- where it says yes, the place is the size further back
   pub place_wrapped :
       (k : ℕ) → w.offset < w.size → k ≤ w.size → rolls_over w k ≡ true →
       place_of w k + w.size ≡ w.start + (w.offset + k)
   unfolding place_of rolls_over
-  place_wrapped k o l e = omega (arith, mod_back (w.offset + k) w.size (leb-true _ _ e) (omega arith))
+  place_wrapped k o l e = search rules
 
   -- so the pointer after k, where it moved at all, tells whether it rolled over
   pub rolls_over_back :
@@ -83,7 +60,7 @@ module _ (w : Window) where
 module _ (p n : ℕ) where
   pub aligned_pointer : (aligned p n).start + (aligned p n).offset ≡ p
   unfolding aligned
-  aligned_pointer = omega (arith, mod-le p n)
+  aligned_pointer = search rules
 
   pub aligned_offset : 0 < n → (aligned p n).offset < n
   unfolding aligned
@@ -120,7 +97,7 @@ pub record SameRun (v w : Window) : Type 0 where
   pub size : v.size ≡ w.size
 
 pub same_back : (v w : Window) → SameRun v w → SameRun w v
-same_back v w k = record { start = sym k.start; size = sym k.size }
+same_back v w k = search rules
 
 pub aligned_same :
     (p n q : ℕ) → (aligned p n).start ≤ q → q < (aligned p n).start + n → SameRun (aligned q n) (aligned p n)
@@ -131,8 +108,7 @@ aligned_same p n q l h =
 -- "single. The window is the 32 words from the pointer": no place below its size wraps
 pub place_single : (p n k : ℕ) → k < n → place_of (run_from p n) k ≡ p + k
 unfolding place_of run_from
-place_single p n k h =
-    let z : 0 + k < n = omega arith in omega (arith, mod-eq_of_lt z)
+place_single p n k h = search rules
 
 -- "Double: bit 5 of the pointer flips": the place half a window on has the other bit 5 and the same bits beside it
 pub record Flipped (p q : ℕ) : Type 0 where
