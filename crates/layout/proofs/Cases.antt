@@ -1,6 +1,6 @@
 -- The cases of the reader and the writer: which bytes and values each refuses, and what it gives for the others.
 use Prim.Native.Nat.{ℕ}
-use mathlib.Core.Path.{◌≡◌}
+use mathlib.Core.Path.{◌≡◌, sym}
 use mathlib.Core.Bool.{true, false}
 use mathlib.Core.List.{List}
 use lib.ListN.{length}
@@ -8,7 +8,8 @@ use borrow.Author.Tests.{eq-eqb, ne_eqb}
 use Rattle.records.specs.declared.value.Record.{Record}
 use Rattle.records.specs.Value.{keeps_layout}
 use Rattle.layout.specs.Layout.{value_in, breaks_layout, reader_refusal, read_record, not_read}
-use Rattle.layout.specs.Writing.{zero_bytes, bytes_of, writer_refusal, write_record}
+use Rattle.layout.specs.Writing.{zero_bytes, header_fields, word_fields, fields_of, header_of, put_words, bytes_of, writer_refusal, write_record}
+use Rattle.layout.proofs.Fields.{put_append}
 use Rattle.words.specs.Refusal.{first_of}
 
 pub read_length : (s : List ℕ) → (length s ≡ 80 → ⊥) → read_record s ≡ not_read 4
@@ -31,3 +32,8 @@ write_layout v b = simp b
 pub write_good : (v : Record) → keeps_layout v ≡ true → write_record v ≡ record { number = 0; bytes = bytes_of v }
 unfolding write_record writer_refusal first_of
 write_good v b = simp b
+
+-- the header, and then the words: all fields
+pub bytes_joined : (v : Record) → put_words (header_of v) v.words 32 ≡ bytes_of v
+unfolding header_of fields_of bytes_of
+bytes_joined v = sym (put_append (header_fields v) (word_fields v.words 32) zero_bytes)

@@ -1,12 +1,10 @@
 pub mod Numbers
 pub mod Fields
-pub mod Swapped
 pub mod Turns
 pub mod Cases
 pub mod Places
 pub mod Limits
-pub mod Eights
-pub mod Copied
+pub mod Parts
 pub mod Inverse
 pub mod Trips
 pub mod Determined

@@ -3,14 +3,18 @@ use Prim.Native.Nat.{ℕ, zero, suc, ◌+◌, ◌-◌, ◌*◌, ◌<◌, ◌≤�
 use native.Mathlib.Nat.{add_assoc}
 use native.Mathlib.Numerals.{add-one}
 use native.Mathlib.Omega.{arith}
-use mathlib.Core.Path.{◌≡◌, refl}
+use mathlib.Core.Path.{◌≡◌, refl, ◌∙◌}
 use mathlib.Core.Logic.{⊎_elim}
 use mathlib.Core.Bool.{Bool, true, ◌&&◌, ◌||◌, and_assoc}
 use mathlib.Core.List.{List, ◌++◌}
-use lib.ListN.{get_or, replicate, get_or-replicate, get_or-append}
-use lib.Seq.{get_or-append-add}
+use lib.ListN.{length, get_or, take, drop, replicate, get_or-replicate, get_or-append}
+use lib.Seq.{get_or-append-add, get_or-take, get_or-drop, length-take-le, take_all}
 use lib.Dec.{ltb, leb, eqb}
 use borrow.Author.Tests.{lt-ltb, le-ltb, le-leb, lt-leb, eq-eqb, ne_eqb}
+use Rattle.std.specs.List.{fold, zip}
+use Rattle.std.proofs.lemmas.List.{length-drop}
+use Rattle.std.proofs.lemmas.List.Sums.{fold_more}
+use Rattle.std.proofs.lemmas.Slice.Zip.{length-zip, get_or-zip}
 use Rattle.words.proofs.Basics.{lt_or_ge}
 use Rattle.records.specs.Value.{lasts_zero}
 use Rattle.layout.specs.Layout.{Bytes, words_in}
@@ -29,6 +33,34 @@ pub within_more :
     (s table : List ℕ) (from n : ℕ) → within s table from (n + 1) ≡ (within s table from n && limited s table from n)
 unfolding within
 within_more s table from n = rw add-one
+
+-- the test of one byte more, beside its limit, as the code folds it
+abbrev pub within_too : Bool → ℕ × ℕ → Bool
+within_too so_far pair = so_far && leb pair.0 pair.1
+
+-- `bytes` are those of s from 16 on, and `limits` those of the table from `from` on
+module _
+    (s table bytes limits : List ℕ) (from : ℕ) (byte : (k : ℕ) → k < 64 → get_or bytes k 0 ≡ get_or s (16 + k) 0)
+    (limit : (k : ℕ) → k < 64 → get_or limits k 0 ≡ get_or table (from + k) 0) (a : length bytes ≡ 64) (b : 64 ≤ length limits) where
+  firsts_within : (n : ℕ) → n ≤ 64 → fold within_too true (take n (zip bytes limits)) ≡ within s table from n
+  unfolding within
+  firsts_within zero l = refl
+  firsts_within (suc n) l =
+      let more = fold_more within_too true (zip bytes limits) n (0, 0) (omega (arith, length-zip bytes limits)) in
+      rw add-one at more
+      ∙ rw (firsts_within n (omega arith), get_or-zip bytes limits n (0, 0) (omega arith) (omega arith), byte n (omega arith), limit n (omega arith))
+
+  pub zip_within : fold within_too true (zip bytes limits) ≡ within s table from 64
+  zip_within =
+      let long : length (zip bytes limits) ≤ 64 = omega (arith, length-zip bytes limits) in
+      rw (take_all 64 (zip bytes limits) long) at (firsts_within 64 (omega arith))
+
+-- a part of a list, place by place
+pub part_at : (s : List ℕ) (from n k : ℕ) → k < n → get_or (take n (drop from s)) k 0 ≡ get_or s (from + k) 0
+part_at s from n k l = get_or-take n (drop from s) k 0 l ∙ get_or-drop from s k 0
+
+pub part_long : (s : List ℕ) (from n : ℕ) → from + n ≤ length s → length (take n (drop from s)) ≡ n
+part_long s from n h = length-take-le n (drop from s) (omega (arith, length-drop from s))
 
 -- the reader's table: 64 limits that every byte keeps, and 64 that only 0 does
 abbrev any : List ℕ

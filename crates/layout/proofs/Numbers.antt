@@ -38,6 +38,14 @@ number_before s i (suc n) x k l =
     let p : (k ≡ i + n → ⊥) = λ e. omega arith in
     rw (put_more, get_or-set_other) (number_before s i n (x / 256) k l)
 
+-- a place behind it
+pub number_after : (s : List ℕ) (i n x k : ℕ) → i + n ≤ k → get_or (put_number s i n x) k 0 ≡ get_or s k 0
+unfolding put_number
+number_after s i zero x k l = refl
+number_after s i (suc n) x k l =
+    let p : (k ≡ i + n → ⊥) = λ e. omega arith in
+    rw (put_more, get_or-set_other) (number_after s i n (x / 256) k (omega arith))
+
 -- what stood in its place before does not matter
 pub number_anew :
     (s t : List ℕ) (i n x k : ℕ) → i + n ≤ length s → i + n ≤ length t → ((j : ℕ) → j < i → get_or s j 0 ≡ get_or t j 0) →

@@ -1,24 +1,23 @@
--- The cases of the reader and the writer of long records, over plain variables: each way out of the code.
-use Prim.Native.Nat.{ℕ, ◌≤◌}
+-- The cases of the reader and the writer of long records, over plain variables.
+use Prim.Native.Nat.{ℕ}
 use native.Mathlib.Omega.{arith}
 use mathlib.Core.Path.{◌≡◌, sym, ap, ◌∙◌}
 use mathlib.Core.Logic.{⊎_elim}
-use mathlib.Core.Bool.{Bool, true, false, not, or-true}
+use mathlib.Core.Bool.{true, false, or-true}
 use mathlib.Core.List.{List}
 use lib.ListN.{length}
 use lib.Dec.{eqb}
-use lib.Seq.{length-take-le, take_all}
-use borrow.Author.Tests.{eqb-true, eq-eqb, ne_eqb, not-true, not-false}
+use lib.Seq.{length-take-le}
+use borrow.Author.Tests.{eqb-true, eq-eqb, ne_eqb}
 use Rattle.records.specs.Value.{keeps_layout}
 use Rattle.words.specs.Refusal.{first_of}
 use Rattle.words.proofs.Basics.{yes_or_no, eq_or_ne}
-use Rattle.layout.specs.declared.reader.Reading.{Reading}
 use Rattle.layout.specs.declared.writer.Written.{Written}
 use Rattle.layout.specs.Fields.{put_fields}
 use Rattle.layout.specs.Layout.{word_at, value_in, breaks_layout, not_read, read_record}
-use Rattle.layout.specs.Writing.{bytes_of, write_record}
+use Rattle.layout.specs.Writing.{write_record}
 use Rattle.layout.proofs.Cases.{read_layout, read_good, write_good}
-use Rattle.layout.proofs.Inverse.{writer_takes, length_bytes}
+use Rattle.layout.proofs.Inverse.{writer_takes}
 use Rattle.layout_long.specs.declared.value.LongRecord.{LongRecord}
 use Rattle.layout_long.specs.declared.reader.LongReading.{LongReading}
 use Rattle.layout_long.specs.declared.writer.LongWritten.{LongWritten}
@@ -66,9 +65,9 @@ pub old_value : (s : List ℕ) → (read_old s).number ≡ 0 → (read_old s).va
 unfolding read_old
 old_value s z = rw (eq-eqb (long_refusal s) 0 (sym (old_number s) ∙ z))
 
-pub way_length : (s : List ℕ) (r : Reading) → (length s ≡ 96 → ⊥) → r ≡ not_read 4 → r ≡ read_old s
+pub hears_length : (s : List ℕ) → (length s ≡ 96 → ⊥) → read_old s ≡ not_read 4
 unfolding read_old long_refusal first_of
-way_length s r h e = rw (ne_eqb (length s) 96 h) e
+hears_length s h = simp (ne_eqb (length s) 96 h)
 
 hears_broken : (s : List ℕ) → length s ≡ 96 → breaks_long s ≡ true → read_old s ≡ not_read 5
 unfolding read_old long_refusal first_of
@@ -79,21 +78,17 @@ hears_good :
 unfolding read_old long_refusal first_of
 hears_good s h b = simp (eq-eqb (length s) 96 h, b)
 
-module _ (s : List ℕ) (long : length s ≡ 96) (a b : Bool) (f : a ≡ end_zero s) (g : b ≡ not a) where
-  pub way_end : b ≡ true → (r : Reading) → r ≡ not_read 5 → r ≡ read_old s
-  way_end y r q =
-      let n : not (end_zero s) ≡ true = ap not (sym f) ∙ sym g ∙ y in
-      q ∙ sym (hears_broken s long (end_broken s (not-true (end_zero s) n)))
+pub hears_end : (s : List ℕ) → length s ≡ 96 → end_zero s ≡ false → read_old s ≡ not_read 5
+hears_end s long e = hears_broken s long (end_broken s e)
 
-  pub way_read : b ≡ false → (r : Reading) → r ≡ read_record (old_part s) → r ≡ read_old s
-  way_read y r q =
-      let n : not (end_zero s) ≡ false = ap not (sym f) ∙ sym g ∙ y in
-      let o = old_part s in
-      ⊎_elim
-      (λ c. q ∙ read_layout o (old_long s long) c ∙ sym (hears_broken s long (old_broken s c)))
-      (λ c.
-      q ∙ read_good o (old_long s long) c ∙ sym (hears_good s long (unbroken s c (not-false (end_zero s) n))))
-      (yes_or_no (breaks_layout o))
+-- with an end of zeros all is said by the old part
+pub hears_old : (s : List ℕ) → length s ≡ 96 → end_zero s ≡ true → read_old s ≡ read_record (old_part s)
+hears_old s long e =
+    let o = old_part s in
+    ⊎_elim
+    (λ c. hears_broken s long (old_broken s c) ∙ sym (read_layout o (old_long s long) c))
+    (λ c. hears_good s long (unbroken s c e) ∙ sym (read_good o (old_long s long) c))
+    (yes_or_no (breaks_layout o))
 
 -- ---- the value of the whole record
 
@@ -123,27 +118,15 @@ long_taken s z =
     let four : (read_long s).number ≡ 4 = ap (λ (r : LongReading). r.number) (long_length_lem s other) in absurd (omega arith))
     (eq_or_ne (length s) 96)
 
-module _ (s : List ℕ) (p : Reading) (e : p ≡ read_old s) where
-  heard_number : p.number ≡ long_refusal s
-  heard_number = ap (λ (r : Reading). r.number) e ∙ old_number s
+pub long_unheard : (s : List ℕ) → ((read_old s).number ≡ 0 → ⊥) → read_long s ≡ not_read_long (read_old s).number
+unfolding read_long
+long_unheard s m = rw (old_number s, ne_eqb (long_refusal s) 0 (λ z. m (old_number s ∙ z)))
 
-  pub way_not_read : (p.number ≡ 0 → ⊥) → (r : LongReading) → r ≡ not_read_long p.number → r ≡ read_long s
-  unfolding read_long
-  way_not_read m r f =
-      rw (ne_eqb (long_refusal s) 0 (λ z. m (heard_number ∙ z))) (f ∙ ap not_read_long heard_number)
-
-  pub heard_long_lem : p.number ≡ 0 → length s ≡ 96
-  heard_long_lem z = (long_taken s (sym heard_number ∙ z)).long
-
-  pub way_long :
-      p.number ≡ 0 → (u m : ℕ) → u ≡ word_at s 80 → m ≡ word_at s 82 →
-      ◌≡◌ {A = LongReading} (record { number = 0; value = record { old = p.value; upper = u; member = m } }) (read_long s)
-  unfolding long_in
-  way_long z u m k l =
-      let t = long_taken s (sym heard_number ∙ z) in
-      let v : p.value ≡ value_in (old_part s) =
-      ap (λ (r : Reading). r.value) e ∙ old_value s (sym (ap (λ (r : Reading). r.number) e) ∙ z) in
-      rw (v, k, l) (sym t.gives)
+pub long_heard :
+    (s : List ℕ) → (read_old s).number ≡ 0 →
+    read_long s ≡ record { number = 0; value = record { old = (read_old s).value; upper = word_at s 80; member = word_at s 82 } }
+unfolding long_in
+long_heard s z = (long_taken s (sym (old_number s) ∙ z)).gives ∙ rw (old_value s z)
 
 -- ---- the writer
 
@@ -165,20 +148,17 @@ long_written v z =
     let five : (write_long v).number ≡ 5 = ap (λ (w : LongWritten). w.number) (write_long_layout v k) in absurd (omega arith))
     (yes_or_no (keeps_layout v.old))
 
-module _ (v : LongRecord) (w : Written) (e : w ≡ write_record v.old) where
-  pub way_not_written : (w.number ≡ 0 → ⊥) → (r : LongWritten) → r ≡ not_long 5 → r ≡ write_long v
-  way_not_written m r f =
-      ⊎_elim
-      (λ k. absurd (m (ap (λ (x : Written). x.number) (e ∙ write_good v.old k))))
-      (λ k. f ∙ sym (write_long_layout v k))
-      (yes_or_no (keeps_layout v.old))
+pub long_unwritten : (v : LongRecord) → ((write_record v.old).number ≡ 0 → ⊥) → write_long v ≡ not_long 5
+long_unwritten v m =
+    ⊎_elim
+    (λ k. absurd (m (ap (λ (w : Written). w.number) (write_good v.old k))))
+    (λ k. write_long_layout v k)
+    (yes_or_no (keeps_layout v.old))
 
-  pub way_written :
-      w.number ≡ 0 → (a b : List ℕ) → a ≡ with_zeros (old_part w.bytes) → b ≡ put_fields (new_fields v) a →
-      ◌≡◌ {A = LongWritten} (record { number = 0; bytes = b }) (write_long v)
-  unfolding long_bytes
-  way_written z a b f g =
-      let k = writer_takes v.old (sym (ap (λ (x : Written). x.number) e) ∙ z) in
-      let bytes : w.bytes ≡ bytes_of v.old = ap (λ (x : Written). x.bytes) (e ∙ write_good v.old k) in
-      let h : length (bytes_of v.old) ≤ 80 = omega (arith, length_bytes v.old) in
-      rw (g, f, bytes, take_all 80 (bytes_of v.old) h) (sym (write_long_good v k))
+pub long_put :
+    (v : LongRecord) → (write_record v.old).number ≡ 0 →
+    write_long v ≡ record { number = 0; bytes = put_fields (new_fields v) (with_zeros (write_record v.old).bytes) }
+unfolding long_bytes
+long_put v z =
+    let k = writer_takes v.old z in
+    rw (ap (λ (w : Written). w.bytes) (write_good v.old k)) (write_long_good v k)

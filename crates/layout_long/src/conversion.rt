@@ -1,6 +1,5 @@
 // Old records to new and back: a record of 80 bytes with sixteen zeros behind it, and the first 80 bytes of 96.
-ghost use Rattle.std.specs.Prelude.{◌≡◌, ◌≤◌, length};
-ghost use Rattle.layout_long.specs.Long.{old_part};
+ghost use Rattle.std.specs.Prelude.{◌≡◌};
 ghost use Rattle.layout_long.specs.Conversion.{longer_of, loses_number, not_short, shorter_of};
 
 use crate::reader::read_long;
@@ -8,10 +7,10 @@ use crate::value::LongRecord;
 use crate::writer::{LongWritten, not_long, with_zeros};
 use layout::reader::read;
 use layout::writer::Written;
-use words::choose::{either, no};
 use words::number::GOING_BACK_LOSES;
 
 // Old to new.
+#[tactic(auto, using(crate::proofs::Conversions::not_longer, crate::proofs::Conversions::read_long_enough, crate::proofs::Conversions::longer_first))]
 pub fn longer(s: &[u8]) -> LongWritten
     ensures { result ≡ longer_of s.now }
 {
@@ -19,29 +18,18 @@ pub fn longer(s: &[u8]) -> LongWritten
     if reading.number != 0 {
         return not_long(reading.number);
     }
-    let bytes = with_zeros(s);
+    let bytes = with_zeros(s.first_chunk().unwrap());
     LongWritten { number: 0, bytes }
 }
 
-fn first_eighty(s: &[u8]) -> [u8; 80]
-    requires { 80 ≤ length s.now }
-    ensures { result ≡ old_part s.now }
-{
-    let mut bytes = [0u8; 80];
-    let mut i: usize = 0;
-    while i < 80 {
-        bytes[i] = s[i];
-        i += 1;
-    }
-    bytes
-}
-
+#[tactic(auto, unfolding(crate::specs::Conversion::loses_number))]
 fn loses_number(v: LongRecord) -> bool
     ensures { result ≡ loses_number v }
 {
-    either(no(v.upper == 0), no(v.member == 0))
+    v.upper != 0 || v.member != 0
 }
 
+#[tactic(auto, unfolding(crate::specs::Conversion::not_short))]
 fn not_short(number: u16) -> Written
     ensures { result ≡ not_short number }
 {
@@ -52,6 +40,7 @@ fn not_short(number: u16) -> Written
 }
 
 // New to old.
+#[tactic(auto, using(crate::proofs::Conversions::not_shorter, crate::proofs::Conversions::long_enough, crate::proofs::Conversions::shorter_unkept, crate::proofs::Conversions::shorter_kept))]
 pub fn shorter(s: &[u8]) -> Written
     ensures { result ≡ shorter_of s.now }
 {
@@ -59,10 +48,9 @@ pub fn shorter(s: &[u8]) -> Written
     if reading.number != 0 {
         return not_short(reading.number);
     }
-    let v = reading.value;
-    if loses_number(v) {
+    if loses_number(reading.value) {
         return not_short(GOING_BACK_LOSES);
     }
-    let bytes = first_eighty(s);
+    let bytes = *s.first_chunk().unwrap();
     Written { number: 0, bytes }
 }

@@ -1,88 +1,79 @@
 // The reader of long records: 96 bytes to a value, or refusal 4 or 5.
-ghost use Rattle.std.specs.Prelude.{◌≡◌, ◌≤◌, length};
-ghost use Rattle.layout.specs.Layout.{word_at, are_zero, not_read};
-ghost use Rattle.layout_long.specs.Long.{end_zero, read_old, not_read_long, read_long};
+ghost use Rattle.std.specs.Prelude.{◌≡◌};
+ghost use Rattle.layout.specs.Layout.{not_read};
+ghost use Rattle.layout_long.specs.Long.{read_old, not_read_long, read_long};
 
 use crate::value::{LongRecord, zero_long};
-use layout::reader::{Reading, join, read};
+use layout::reader::{Reading, are_zero, join, read};
 use records::value::zero_value;
-use words::choose::{both, no};
 use words::number::{RECORD_LAYOUT, RECORD_LENGTH};
 
 // What reading gives: the number, and the value where it is 0.
-#[derive(Clone, Copy)]
+#[derive(Clone, Copy, Debug, PartialEq, Eq)]
 pub struct LongReading {
     pub number: u16,
     pub value: LongRecord,
 }
 
-fn new_word_at(s: &[u8], i: usize) -> u16
-    requires { (length s.now ≡ 96) × (i ≤ 94) }
-    ensures { result ≡ word_at s.now i }
-{
-    join(s[i], s[i + 1])
-}
-
-fn four_are_zero(s: &[u8], from: usize) -> bool
-    requires { (length s.now ≡ 96) × (from ≤ 92) }
-    ensures { result ≡ are_zero s.now from 4 }
-{
-    both(
-        both(both(s[from] == 0, s[from + 1] == 0), s[from + 2] == 0),
-        s[from + 3] == 0,
-    )
-}
-
-// Whether bytes 84 to 95 are zero.
-fn end_is_zero(s: &[u8]) -> bool
-    requires { length s.now ≡ 96 }
-    ensures { result ≡ end_zero s.now }
-{
-    both(
-        both(four_are_zero(s, 84), four_are_zero(s, 88)),
-        four_are_zero(s, 92),
-    )
-}
-
+#[tactic(auto, unfolding(layout::specs::Layout::not_read))]
 fn no_old(number: u16) -> Reading
     ensures { result ≡ not_read number }
 {
-    let value = zero_value();
-    Reading { number, value }
+    Reading {
+        number,
+        value: zero_value(),
+    }
 }
 
-// What a terminal hears of a long record: its old part. All tests of the long layout are made here.
+// All tests of the long layout but that of its length, and what is read of the old part.
+#[tactic(auto, using(crate::proofs::Cases::hears_end, crate::proofs::Cases::hears_old))]
+fn old_in(s: &[u8; 96]) -> Reading
+    ensures { result ≡ read_old s.now }
+{
+    if !are_zero(s, 84, 12) {
+        return no_old(RECORD_LAYOUT);
+    }
+    read(&s[..80])
+}
+
+// What a terminal hears of a long record: its old part.
+#[tactic(auto, using(crate::proofs::Cases::hears_length))]
 pub fn read_old(s: &[u8]) -> Reading
     ensures { result ≡ read_old s.now }
 {
-    if s.len() != 96 {
+    let Ok(bytes) = <&[u8; 96]>::try_from(s) else {
         return no_old(RECORD_LENGTH);
-    }
-    if no(end_is_zero(s)) {
-        return no_old(RECORD_LAYOUT);
-    }
-    read(&s[0..80])
+    };
+    old_in(bytes)
 }
 
+#[tactic(auto, unfolding(crate::specs::Long::not_read_long))]
 fn not_read_long(number: u16) -> LongReading
     ensures { result ≡ not_read_long number }
 {
-    let value = zero_long();
-    LongReading { number, value }
+    LongReading {
+        number,
+        value: zero_long(),
+    }
 }
 
+#[tactic(auto, using(crate::proofs::Cases::long_length_lem, crate::proofs::Cases::long_unheard, crate::proofs::Cases::long_heard))]
 pub fn read_long(s: &[u8]) -> LongReading
     ensures { result ≡ read_long s.now }
 {
-    let reading = read_old(s);
+    let Ok(bytes) = <&[u8; 96]>::try_from(s) else {
+        return not_read_long(RECORD_LENGTH);
+    };
+    let reading = old_in(bytes);
     if reading.number != 0 {
         return not_read_long(reading.number);
     }
-    let old = reading.value;
-    let upper = new_word_at(s, 80);
-    let member = new_word_at(s, 82);
     LongReading {
         number: 0,
-        value: LongRecord { old, upper, member },
+        value: LongRecord {
+            old: reading.value,
+            upper: join(bytes[80], bytes[81]),
+            member: join(bytes[82], bytes[83]),
+        },
     }
 }

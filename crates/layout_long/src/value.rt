@@ -4,7 +4,7 @@ ghost use Rattle.layout_long.specs.Long.{zero_long};
 
 use records::value::{Record, zero_value};
 
-#[derive(Clone, Copy)]
+#[derive(Clone, Copy, Debug, PartialEq, Eq)]
 pub struct LongRecord {
     // the record of 80 bytes, with the time tag's lower half
     pub old: Record,
@@ -14,12 +14,12 @@ pub struct LongRecord {
     pub member: u16,
 }
 
+#[tactic(auto, unfolding(crate::specs::Long::zero_long))]
 pub fn zero_long() -> LongRecord
     ensures { result ≡ zero_long }
 {
-    let old = zero_value();
     LongRecord {
-        old,
+        old: zero_value(),
         upper: 0,
         member: 0,
     }

@@ -1,18 +1,19 @@
--- `are_zero` meets its contract. The loop's invariant: `ok` tells whether the first `i` bytes from `from` on are zero.
+-- `are_zero` meets its contract: what is folded is the definition's test, byte by byte.
+use borrow.Author.Rules.{rules}
+use borrow.Author.Tests.{tests}
 use native.Mathlib.Omega.{arith}
-use mathlib.Core.Path.{◌≡◌, refl}
-use Rattle.layout.specs.Layout.{are_zero}
-use Rattle.layout.proofs.Turns.{are_zero_more}
+use mathlib.Core.Bool.{true}
+use Prim.Native.Nat.{◌+◌, ◌-◌}
+use mathlib.Core.Path.{◌∙◌}
+use lib.ListN.{take, drop}
+use Rattle.std.proofs.lemmas.Iterator.{YieldsList-from_slice}
+use Rattle.std.proofs.lemmas.Iterator.Consumers.{fold_from_yields_List}
+use Rattle.layout.proofs.Parts.{zero_too, part_zero}
 use Rattle.layout.proofs.reader.are_zero.Goals as goal
-
-pub loop-i-init : goal.loop-i-init
-unfolding are_zero
-loop-i-init c = (omega arith, refl)
-
-pub loop-i-preserved : goal.loop-i-preserved
-loop-i-preserved c = (omega arith, rw (are_zero_more, c.both-ok.ensures, c.loop-i.invariant.1))
 
 pub returns : goal.returns
 returns c =
-    let e : c.loop-i.i ≡ c.args.n = omega arith in
-    rw e at c.loop-i.invariant.1
+    let a = c.args in
+    let part = take (a.from + a.n - a.from) (drop a.from a.s.now) in
+    fold_from_yields_List {all = part} _ zero_too true _ c.fold.ensures.ran (YieldsList-from_slice part cc) (λ a x b q k. search (rules, tests))
+    ∙ part_zero a.s.now a.from a.n _ (omega arith) (omega arith)

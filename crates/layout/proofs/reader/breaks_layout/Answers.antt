@@ -1,17 +1,15 @@
 -- `breaks_layout` meets its contract: of the value that the bytes hold, the header and the words each keep their rules.
+use native.Mathlib.Omega.{arith}
+use Rattle.std.proofs.lemmas.Grind.{common_steps}
 use Rattle.records.specs.Value.{keeps_layout}
 use Rattle.layout.specs.Layout.{value_in, breaks_layout}
 use Rattle.layout.proofs.reader.breaks_layout.Goals as goal
+use Rattle.layout.proofs.reader.breaks_layout.Goals.{then-are_zero, else-are_zero, then-keeps_header, else-keeps_header}
 
 pub returns : goal.returns
 unfolding breaks_layout keeps_layout value_in
 returns c =
-    rw (
-      c.no.ensures,
-      c.both-2.ensures,
-      c.both.ensures,
-      c.lasts_are_zero.ensures,
-      c.keeps_header.ensures,
-      c.are_zero.ensures,
-      c.requires.1,
-    )
+    elim c.if-keeps_header.branch [
+      | then-keeps_header w ↦ elim c.if-are_zero.branch [ then-are_zero u ↦ grind (arith, common_steps) | else-are_zero u ↦ grind (arith, common_steps) ]
+      | else-keeps_header w ↦ elim c.if-are_zero.branch [ then-are_zero u ↦ grind (arith, common_steps) | else-are_zero u ↦ grind (arith, common_steps) ]
+    ]
