@@ -3,6 +3,7 @@
 -- from its function.
 use mathlib.Core.Path.{refl}
 use Rattle.words.proofs.Settled.{determined, Settled}
+use Rattle.message.proofs.Performing.{performed_as-injective}
 use Rattle.message.proofs.answer
 use Rattle.message.proofs.heard
 use Rattle.message.proofs.long
@@ -31,7 +32,7 @@ message_from_bytes_settled κs a x y v w p q =
 
 pub perform_settled : Settled 2 perform.perform.Kinds.ps perform.perform.Kinds.r perform.perform.Reads.Post
 perform_settled κs a x y v w p q =
-    (determined p.0 q.0, λ i. (determined p.1.0 q.1.0 i, (determined p.1.1 q.1.1 i, v.1.1)))
+    (performed_as-injective _ _ (determined p.0 q.0), λ i. (determined p.1.0 q.1.0 i, (determined p.1.1 q.1.1 i, v.1.1)))
 
 pub perform_value_settled : Settled 2 heard.perform_value.Kinds.ps heard.perform_value.Kinds.r heard.perform_value.Reads.Post
 perform_value_settled κs a x y v w p q =

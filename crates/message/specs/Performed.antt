@@ -1,8 +1,11 @@
 -- A message performed: tested, then refused with a number or done by a plan; and what that answers.
-use Rattle.std.specs.Prelude.{ℕ, Bool, cond, List, [], ◌∷◌, ◌++◌, length, eqb}
+use Rattle.std.specs.Prelude.{ℕ, Bool, cond, List, [], ◌∷◌, ◌++◌, length, eqb, Result}
+use Rattle.std.specs.Prelude.Result.{Ok, Err}
 use Rattle.words.specs.declared.settings.Settings.{Settings}
 use Rattle.words.specs.declared.remembered.Remembered.{Remembered}
+use Rattle.words.specs.declared.refusal.Refusal.{Refusal}
 use Rattle.words.specs.Number.{ram_length, count_full}
+use Rattle.words.specs.Refusals.{number_of}
 use Rattle.words.specs.Refusal.{Test, ◌when◌}
 use Rattle.memory.specs.Map.{ram_refused}
 use Rattle.memory.specs.State.{State}
@@ -14,8 +17,6 @@ use Rattle.plan.specs.Plan.{plan_from}
 use Rattle.records.specs.declared.value.Record.{Record}
 use Rattle.plan.specs.declared.plan.Plan.{Plan}
 use Rattle.message.specs.declared.tested.Found.{Found}
-use Rattle.message.specs.declared.tested.Tested.{Tested}
-use Rattle.message.specs.declared.tested.Tested.TheVariants.{Stopped, Passed}
 use Rattle.message.specs.declared.perform.Performed.{Performed}
 use Rattle.message.specs.declared.perform.Performed.TheVariants.{Refused, Done}
 use Rattle.message.specs.declared.answer.Answer.{Answer}
@@ -35,10 +36,6 @@ abbrev pub found_for : List ℕ → Settings → ℕ → Found
 found_for ram s command =
     record { target = target_of ram s command; pointer = stack_pointer ram s; block = stack_window ram s }
 
--- by the number that the tests gave
-unfoldable pub tested_with : ℕ → Found → Tested
-tested_with number f = cond (eqb number 0) (Passed f) (Stopped number)
-
 -- the plan of what the tests let through
 abbrev pub plan_found : Settings → Remembered → Record → Found → Plan
 plan_found s before v f = plan_from before v (deed_of s f.target v) (entry_in f.pointer f.block)
@@ -46,6 +43,11 @@ plan_found s before v f = plan_from before v (deed_of s f.target v) (entry_in f.
 -- by the number that the tests gave: the plan
 unfoldable pub performed_with : ℕ → Plan → Performed
 performed_with number p = cond (eqb number 0) (Done p) (Refused number)
+
+-- the number of a refusal, or the plan
+abbrev pub performed_as : Result Plan Refusal → Performed
+performed_as (Ok p) = Done p
+performed_as (Err refusal) = Refused (number_of refusal)
 
 -- what was heard, in a state
 unfoldable pub performed_of : Settings → Heard → State → Performed

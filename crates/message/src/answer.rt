@@ -5,7 +5,9 @@ ghost use Rattle.message.specs.Answer.{refused_with, accepted_with};
 use plan::plan::Plan;
 use words::remembered::Remembered;
 
-#[derive(Clone, Copy)]
+// Of a refusal, "the number, the rest zero": so it is no Result, and whoever lays an answer out as columns or words takes
+// any of them.
+#[derive(Clone, Copy, Debug, Default, PartialEq, Eq)]
 pub struct Answer {
     pub number: u16,
     pub block_status: u16,
@@ -19,28 +21,23 @@ pub struct Answer {
 }
 
 // The answer, and what is remembered after it.
-#[derive(Clone, Copy)]
+#[derive(Clone, Copy, Debug, PartialEq, Eq)]
 pub struct Outcome {
     pub answer: Answer,
     pub remembered: Remembered,
 }
 
+#[tactic(auto, unfolding(crate::specs::Answer::refused_with))]
 pub(crate) fn refused_with(number: u16) -> Answer
     ensures { result ≡ refused_with number }
 {
     Answer {
         number,
-        block_status: 0,
-        cell: 0,
-        before: 0,
-        after: 0,
-        status: 0,
-        answered: false,
-        sent: 0,
-        interrupt: 0,
+        ..Answer::default()
     }
 }
 
+#[tactic(auto, unfolding(crate::specs::Answer::accepted_with))]
 pub fn accepted_with(p: Plan) -> Answer
     ensures { result ≡ accepted_with p }
 {

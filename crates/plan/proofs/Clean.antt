@@ -2,11 +2,11 @@
 use Prim.Native.Nat.{◌/◌, ◌%◌, ◌<◌, min}
 use native.Mathlib.Nat.{min-eq_right}
 use native.Mathlib.Omega.{arith}
-use mathlib.Core.Path.{◌≡◌, sym, ◌∙◌}
+use mathlib.Core.Path.{◌≡◌, ◌∙◌}
 use mathlib.Core.Logic.{⊎_elim}
-use mathlib.Core.Bool.{Bool, true, false, not, ◌||◌}
+use mathlib.Core.Bool.{true, false, not, ◌||◌}
 use lib.Dec.{leb, eqb}
-use borrow.Author.Tests.{leb-false, eqb-true, eq-eqb, ne_eqb, not-true, not-false}
+use borrow.Author.Tests.{leb-false, eqb-true, eq-eqb, ne_eqb, not-false}
 use Rattle.words.specs.declared.settings.Settings.{Settings}
 use Rattle.words.specs.Command.{transmits, word_count}
 use Rattle.words.proofs.Basics.{yes_or_no, or_left, or_right}
@@ -63,8 +63,9 @@ clean_act_lem s t v c =
     simp (n, c.illegal, c.busy, heard))
     (yes_or_no (transmits v.command)))
 
--- the same, in the code's way: a yes that it is not odd
+-- the same, by the code's test
 pub not_unclean :
-    (s : Settings) (t : Target) (v : Record) (odd : Bool) → odd ≡ is_unclean t.illegal t.busy t.broadcast v.flags (not (eqb v.count (expected_words v.command))) → (clean : Bool) → clean ≡ not odd → clean ≡ true →
+    (s : Settings) (t : Target) (v : Record) →
+    is_unclean t.illegal t.busy t.broadcast v.flags (not (eqb v.count (expected_words v.command))) ≡ false →
     act_of s t v ≡ clean_act v.command
-not_unclean s t v odd e clean f h = clean_act_lem s t v (clean_of t v (sym e ∙ not-true odd (sym f ∙ h)))
+not_unclean s t v e = clean_act_lem s t v (clean_of t v e)

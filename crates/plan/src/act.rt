@@ -5,7 +5,6 @@ ghost use Rattle.plan.specs.Act.{withheld, words_stored, words_sent, act_with, a
 use faults::fault::{Faults, at_fault, faults_for};
 use lookup::target::Target;
 use records::value::Record;
-use words::choose::{both, either, no, pick, smaller};
 use words::command;
 use words::settings::Settings;
 
@@ -19,33 +18,35 @@ pub struct Act {
     pub k: u16,
 }
 
+#[tactic(auto, unfolding(crate::specs::Act::withheld))]
 fn is_withheld(s: Settings, t: Target) -> bool
     ensures { result ≡ withheld s t }
 {
-    either(
-        both(t.illegal, s.illegal_receive_disable),
-        both(t.busy, s.busy_receive_disable),
-    )
+    (t.illegal && s.illegal_receive_disable) || (t.busy && s.busy_receive_disable)
 }
 
+#[tactic(auto, unfolding(crate::specs::Act::words_stored))]
 fn words_stored(s: Settings, t: Target, v: Record) -> u16
     ensures { result ≡ words_stored s t v }
 {
-    let none = either(command::transmit(v.command), is_withheld(s, t));
-    let heard = smaller(v.count as usize, command::word_count(v.command) as usize);
-    pick(none, 0, heard as u16)
+    if command::transmit(v.command) || is_withheld(s, t) {
+        return 0;
+    }
+    u16::from(v.count).min(command::word_count(v.command))
 }
 
+#[tactic(auto, unfolding(crate::specs::Act::words_sent))]
 fn words_sent(t: Target, valid: bool, command: u16) -> u16
     ensures { result ≡ words_sent t valid command }
 {
-    let sends = both(
-        command::transmit(command),
-        both(valid, both(no(t.illegal), no(t.busy))),
-    );
-    pick(sends, command::word_count(command), 0)
+    if command::transmit(command) && valid && !t.illegal && !t.busy {
+        command::word_count(command)
+    } else {
+        0
+    }
 }
 
+#[tactic(auto, unfolding(crate::specs::Act::act_with))]
 fn act_with(s: Settings, t: Target, v: Record, faults: Faults, valid: bool) -> Act
     ensures { result ≡ act_with s t v faults valid }
 {
@@ -56,14 +57,19 @@ fn act_with(s: Settings, t: Target, v: Record, faults: Faults, valid: bool) -> A
         valid,
         stored,
         sent,
-        k: pick(command::transmit(v.command), sent, stored),
+        k: if command::transmit(v.command) {
+            sent
+        } else {
+            stored
+        },
     }
 }
 
+#[tactic(auto, unfolding(crate::specs::Act::act_of))]
 pub fn act_of(s: Settings, t: Target, v: Record) -> Act
     ensures { result ≡ act_of s t v }
 {
-    let valid = no(at_fault(t.broadcast, v));
+    let valid = !at_fault(t.broadcast, v);
     let faults = faults_for(t.broadcast, v);
     act_with(s, t, v, faults, valid)
 }

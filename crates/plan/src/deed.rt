@@ -12,12 +12,11 @@ use lookup::target::Target;
 use records::transfer::is_transfer;
 use records::value::{Record, bus_b};
 use windows::window::Window;
-use words::choose::{both, either, no, pick};
 use words::command;
 use words::settings::Settings;
 
 // What the interrupt word tells of the message itself.
-#[derive(Clone, Copy)]
+#[derive(Clone, Copy, Debug, PartialEq, Eq)]
 pub struct Signals {
     pub illegal: bool,
     pub rollover: bool,
@@ -25,7 +24,7 @@ pub struct Signals {
     pub end: bool,
 }
 
-#[derive(Clone, Copy)]
+#[derive(Clone, Copy, Debug, PartialEq, Eq)]
 pub struct Deed {
     // the number of the cell, and the window from whose pointer on words are stored or sent
     pub cell: u16,
@@ -48,20 +47,16 @@ pub struct Deed {
 }
 
 // The signals are made in place: the compiler would pack a struct of four bytes that is copied.
+#[tactic(auto, unfolding(crate::specs::Deed::signals_of, crate::specs::Deed::deed_with))]
 fn deed_with(s: Settings, t: Target, v: Record, a: Act, m: Motion) -> Deed
     requires { a.valid ≡ not (any_fault a.faults) }
     ensures { result ≡ deed_with s t v a m }
 {
-    let faults = a.faults;
     let c = t.cell;
-    let window = t.window;
-    let illegal = t.illegal;
-    let rolled = both(m.rollover, c.circular_interrupt);
-    let fault = no(a.valid);
-    let end = c.end_interrupt;
+    let fault = !a.valid;
     Deed {
         cell: t.number,
-        window,
+        window: t.window,
         stored: a.stored,
         sent: a.sent,
         before: c.pointer,
@@ -70,36 +65,35 @@ fn deed_with(s: Settings, t: Target, v: Record, a: Act, m: Motion) -> Deed
         block_status: block_status(
             bus_b(v),
             is_transfer(v),
-            faults,
+            a.faults,
             fault,
             m.rollover,
             t.illegal,
         ),
         third: c.pointer,
         status: status_word(s, t, a.valid),
-        answered: both(a.valid, no(t.broadcast)),
+        answered: a.valid && !t.broadcast,
         sends_third: false,
         signals: Signals {
-            illegal,
-            rollover: rolled,
+            illegal: t.illegal,
+            rollover: m.rollover && c.circular_interrupt,
             fault,
-            end,
+            end: c.end_interrupt,
         },
     }
 }
 
 // What makes a message other than clean: illegal, busy, broadcast, any flag but the bus, a wrong count. Asked of plain
 // values, so that the compiler need not take target and record apart.
+#[tactic(auto, unfolding(crate::specs::Clean::is_unclean))]
 fn is_unclean(illegal: bool, busy: bool, broadcast: bool, flags: u8, miscounted: bool) -> bool
     ensures { result ≡ is_unclean illegal busy broadcast flags miscounted }
 {
-    either(
-        either(illegal, busy),
-        either(broadcast, either(2 <= flags, miscounted)),
-    )
+    illegal || busy || broadcast || 2 <= flags || miscounted
 }
 
 // The act of a clean message: no fault, and all its words stored or sent.
+#[tactic(auto, unfolding(crate::specs::Clean::clean_act))]
 fn clean_act(command: u16) -> Act
     ensures { result ≡ clean_act command }
 {
@@ -116,18 +110,19 @@ fn clean_act(command: u16) -> Act
             second: false,
         },
         valid: true,
-        stored: pick(transmits, 0, n),
-        sent: pick(transmits, n, 0),
+        stored: if transmits { 0 } else { n },
+        sent: if transmits { n } else { 0 },
         k: n,
     }
 }
 
 // Most messages are clean: for them the compiler has a way of its own through all that follows.
+#[tactic(auto, using(crate::proofs::Clean::not_unclean), unfolding(crate::specs::Deed::deed_of, crate::specs::Act::act_of, crate::specs::Act::act_with, crate::specs::Clean::clean_act, faults::specs::Fault::any_fault))]
 pub fn deed_of(s: Settings, t: Target, v: Record) -> Deed
     ensures { result ≡ deed_of s t v }
 {
-    let miscounted = no(v.count as u16 == expected_words(v.command));
-    if no(is_unclean(t.illegal, t.busy, t.broadcast, v.flags, miscounted)) {
+    let miscounted = u16::from(v.count) != expected_words(v.command);
+    if !is_unclean(t.illegal, t.busy, t.broadcast, v.flags, miscounted) {
         let a = clean_act(v.command);
         let m = motion_of(s, t, a);
         return deed_with(s, t, v, a, m);

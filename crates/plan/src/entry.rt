@@ -2,10 +2,11 @@
 ghost use Rattle.std.specs.Prelude.{◌≡◌};
 ghost use Rattle.plan.specs.Entry.{entry_in};
 
+use crate::motion::pointer_to;
 use windows::window::{Window, place, rolls_over};
 
 // Where the descriptor goes, where the stack pointer stands then, and whether it went round.
-#[derive(Clone, Copy)]
+#[derive(Clone, Copy, Debug, PartialEq, Eq)]
 pub struct Entry {
     pub pointer: u16,
     pub after: u16,
@@ -18,7 +19,7 @@ pub(crate) fn entry_in(pointer: u16, block: Window) -> Entry
 {
     Entry {
         pointer,
-        after: (place(block, 4) % 65536) as u16,
+        after: pointer_to(place(block, 4)),
         wrapped: rolls_over(block, 4),
     }
 }

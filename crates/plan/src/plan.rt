@@ -14,7 +14,7 @@ use words::bits::word_of;
 use words::remembered::{Remembered, remembering};
 use words::settings::Settings;
 
-#[derive(Clone, Copy)]
+#[derive(Clone, Copy, Debug, PartialEq, Eq)]
 pub struct Plan {
     pub deed: Deed,
     pub entry: Entry,
@@ -24,6 +24,7 @@ pub struct Plan {
 }
 
 // The signals one by one: the compiler would pack a struct of four bytes that is copied.
+#[tactic(auto, unfolding(crate::specs::Plan::interrupt_word))]
 fn interrupt_word(illegal: bool, rollover: bool, fault: bool, end: bool, wrapped: bool) -> u16
     ensures { result ≡ interrupt_word (record { illegal = illegal; rollover = rollover; fault = fault; end = end }) wrapped }
 {
@@ -33,6 +34,7 @@ fn interrupt_word(illegal: bool, rollover: bool, fault: bool, end: bool, wrapped
     ])
 }
 
+#[tactic(auto, unfolding(crate::specs::Plan::plan_with))]
 fn plan_with(deed: Deed, entry: Entry, remembered: Remembered) -> Plan
     ensures { result ≡ plan_with deed entry remembered }
 {

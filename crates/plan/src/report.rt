@@ -6,10 +6,10 @@ ghost use Rattle.plan.specs.Report.{block_status, status_bits, status_word};
 use faults::fault::Faults;
 use lookup::target::Target;
 use words::bits::word_of;
-use words::choose::{either, no};
 use words::settings::Settings;
 
 // `fault` tells whether there is any: whoever asks has worked it out.
+#[tactic(auto, unfolding(crate::specs::Report::block_status))]
 pub(crate) fn block_status(
     second_bus: bool,
     transfer: bool,
@@ -41,10 +41,11 @@ pub(crate) fn block_status(
     ])
 }
 
+#[tactic(auto, unfolding(crate::specs::Report::status_bits))]
 fn status_bits(s: Settings, t: Target, valid: bool) -> u16
     ensures { result ≡ status_bits s t valid }
 {
-    let error = either(no(valid), t.illegal);
+    let error = !valid || t.illegal;
     word_of([
         false,
         false,
@@ -65,6 +66,7 @@ fn status_bits(s: Settings, t: Target, valid: bool) -> u16
     ])
 }
 
+#[tactic(auto, unfolding(crate::specs::Report::status_word), using(crate::proofs::StatusBits::status_bits_low))]
 pub(crate) fn status_word(s: Settings, t: Target, valid: bool) -> u16
     ensures { result ≡ status_word s t valid }
 {

@@ -1,5 +1,4 @@
 pub mod TwoRuns
 pub mod Replied
 pub mod Listed
-pub mod Carried
 pub mod Determined

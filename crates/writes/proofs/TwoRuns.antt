@@ -3,13 +3,15 @@
 use Prim.Native.Nat.{ℕ, zero, suc, ◌+◌, ◌-◌, ◌≤◌, ◌<◌, min}
 use native.Mathlib.Nat.{add-zero, zero-add}
 use native.Mathlib.Omega.{arith}
-use mathlib.Core.Path.{◌≡◌, refl, sym, ap, ◌∙◌}
-use mathlib.Core.Bool.{Bool, true, ◌&&◌}
+use mathlib.Core.Path.{◌≡◌, refl, ap}
+use mathlib.Core.Bool.{true, false, cond, ◌&&◌}
+use mathlib.Core.Logic.{⊎_elim}
+use Rattle.std.specs.Prelude.{Option, Some, None}
 use mathlib.Core.List.{List, ◌++◌, append_assoc, append-nil}
 use lib.ListN.{get_or}
 use lib.Dec.{ltb, leb}
 use borrow.Author.Tests.{le-leb, lt-leb, ltb-true, leb-true}
-use Rattle.words.proofs.Basics.{and_left, and_right}
+use Rattle.words.proofs.Basics.{yes_or_no, and_left, and_right}
 use Rattle.windows.specs.declared.window.Window.{Window}
 use Rattle.windows.specs.Window.{place_of, rolls_over}
 use Rattle.windows.proofs.Wrap.{place_straight, place_wrapped}
@@ -21,26 +23,34 @@ use Rattle.writes.specs.Copies.{data_writes}
 use Rattle.writes.specs.Copies.{sent_writes}
 use Rattle.writes.specs.Runs.{run_writes, goes_once, runs_of}
 
--- the window's end is as far from the pointer as the size is from the offset
-pub runs_made :
-    (w : Window) (n f : ℕ) → w.offset ≤ w.size → f ≡ min n (w.start + w.size - (w.start + w.offset)) →
-    record { pointer = w.start + w.offset; first = f; start = w.start; rest = n - f } ≡ runs_of w n
-unfolding runs_of
-runs_made w n f l e =
-    let g : f ≡ min n (w.size - w.offset) = omega arith in rw g
+-- what the test before the runs says
+record Once (w : Window) (words n : ℕ) : Type 0 where
+  inside : w.offset < w.size
+  few : n ≤ w.size
+  fits : w.start + w.size ≤ words
 
--- the runs share out the words: each has its places straight on, and all lie in the window
-pub record TwoRuns (w : Window) (n : ℕ) (r : Runs) : Type 0 where
+once_says : (w : Window) (words n : ℕ) → goes_once w words n ≡ true → Once w words n
+unfolding goes_once
+once_says w words n e =
+    let q = and_left (ltb w.offset w.size && leb n w.size) (leb (w.start + w.size) words) e in
+    record {
+      inside = ltb-true _ _ (and_left (ltb w.offset w.size) (leb n w.size) q);
+      few = leb-true _ _ (and_right (ltb w.offset w.size) (leb n w.size) q);
+      fits = leb-true _ _ (and_right (ltb w.offset w.size && leb n w.size) (leb (w.start + w.size) words) e);
+    }
+
+-- the runs share out the words: each has its places straight on, and all lie in RAM of this length
+pub record TwoRuns (w : Window) (words n : ℕ) (r : Runs) : Type 0 where
   pub all : r.first + r.rest ≡ n
   pub first : (k : ℕ) → k < r.first → place_of w k ≡ r.pointer + k
   pub second : (k : ℕ) → k < r.rest → place_of w (r.first + k) ≡ r.start + k
-  pub first_end : r.pointer + r.first ≤ w.start + w.size
-  pub second_end : r.start + r.rest ≤ w.start + w.size
+  pub first_end : r.pointer + r.first ≤ words
+  pub second_end : r.start + r.rest ≤ words
 
-pub two_runs :
-    (w : Window) (n : ℕ) (r : Runs) → w.offset < w.size → n ≤ w.size → r ≡ runs_of w n → TwoRuns w n r
+runs_share : (w : Window) (words n : ℕ) (r : Runs) → Once w words n → r ≡ runs_of w n → TwoRuns w words n r
 unfolding rolls_over runs_of
-two_runs w n r o l e =
+runs_share w words n r o e =
+    let i = o.inside in
     let p : r.pointer ≡ w.start + w.offset = ap (λ (x : Runs). x.pointer) e in
     let f : r.first ≡ min n (w.size - w.offset) = ap (λ (x : Runs). x.first) e in
     let s : r.start ≡ w.start = ap (λ (x : Runs). x.start) e in
@@ -55,11 +65,27 @@ two_runs w n r o l e =
             s,
             f,
             q,
-            place_wrapped w (r.first + k) o (omega (arith, f, q)) (le-leb w.size (w.offset + (r.first + k)) (omega (arith, f, q))),
+            place_wrapped w (r.first + k) i (omega (arith, f, q)) (le-leb w.size (w.offset + (r.first + k)) (omega (arith, f, q))),
           );
       first_end = omega (arith, p, f);
       second_end = omega (arith, s, f, q);
     }
+
+-- where there are runs, the window lies in RAM and the walk goes once
+pub two_runs :
+    (w : Window) (words n : ℕ) (r : Runs) → Some r ≡ cond (goes_once w words n) (Some (runs_of w n)) None →
+    TwoRuns w words n r
+two_runs w words n r e =
+    ⊎_elim
+    (λ (y : goes_once w words n ≡ true).
+    let f = rw y at e in
+    let same : r ≡ runs_of w n = cc in
+    runs_share w words n r (once_says w words n y) same)
+    (λ (no : goes_once w words n ≡ false).
+    let f = rw no at e in
+    let none : ◌≡◌ {A = Option Runs} (Some r) None = f in
+    cc)
+    (yes_or_no (goes_once w words n))
 
 -- writes that are the same one by one
 writes_same :
@@ -90,30 +116,7 @@ writes_parts p w p₁ w₁ p₂ w₂ f g a b c d =
     writes_same (λ k. p (f + k)) p₂ (λ k. w (f + k)) w₂ g c d in
     rw (writes_join p w f g, first, second)
 
--- what the test before the runs says
-pub record Once (w : Window) (words n : ℕ) : Type 0 where
-  pub inside : w.offset < w.size
-  pub few : n ≤ w.size
-  pub fits : w.start + w.size ≤ words
-
-pub goes_once_says :
-    (w : Window) (words n : ℕ) (once room may : Bool) →
-    once ≡ goes_once w words n → may ≡ (once && room) → may ≡ true → Once w words n × (room ≡ true)
-unfolding goes_once
-goes_once_says w words n once room may e m h =
-    let b : (once && room) ≡ true = sym m ∙ h in
-    let g : ((ltb w.offset w.size && leb n w.size) && leb (w.start + w.size) words) ≡ true =
-    sym e ∙ and_left once room b in
-    let q = and_left (ltb w.offset w.size && leb n w.size) (leb (w.start + w.size) words) g in (
-      record {
-        inside = ltb-true _ _ (and_left (ltb w.offset w.size) (leb n w.size) q);
-        few = leb-true _ _ (and_right (ltb w.offset w.size) (leb n w.size) q);
-        fits = leb-true _ _ (and_right (ltb w.offset w.size && leb n w.size) (leb (w.start + w.size) words) g);
-      },
-      and_right once room b,
-    )
-
-module _ (w : Window) (n : ℕ) (r : Runs) (t : TwoRuns w n r) where
+module _ (w : Window) (room n : ℕ) (r : Runs) (t : TwoRuns w room n r) where
   -- storing: the places walk around the window, the words go straight on
   pub stored_in_runs :
       (words m m₁ m₂ : List ℕ) →

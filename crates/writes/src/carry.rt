@@ -12,35 +12,32 @@ use plan::plan::Plan;
 use records::value::Record;
 use words::settings::Settings;
 
+#[tactic(auto, using(memory::proofs::Places::table_low), unfolding(crate::specs::Writes::pointer_list, memory::specs::Writes::apply_writes))]
 fn move_pointer(ram: &mut [u16], s: Settings, d: Deed)
     ensures { ram.new ≡ apply_writes (pointer_writes s d) ram.old }
 {
-    let area = s.area;
     if d.moves {
-        put(ram, lookup_table(area) + d.cell as usize, d.after);
+        put(ram, lookup_table(s.area) + usize::from(d.cell), d.after);
     }
 }
 
+#[tactic(auto, unfolding(crate::specs::Writes::entry_list, crate::specs::Writes::descriptor_of, memory::specs::Rows::row, memory::specs::Writes::apply_writes))]
 fn put_entry(ram: &mut [u16], d: Deed, e: Entry, v: Record)
     ensures { ram.new ≡ apply_writes (entry_writes e (descriptor_of d v)) ram.old }
 {
-    let at = e.pointer as usize;
+    let at = usize::from(e.pointer);
     put(ram, at, d.block_status);
     put(ram, at + 1, v.tag);
     put(ram, at + 2, d.third);
     put(ram, at + 3, v.command);
 }
 
+#[tactic(auto, using(memory::proofs::Writes::apply_append), unfolding(crate::specs::Writes::list_of, crate::specs::Writes::deed_list, crate::specs::Writes::stack_list, memory::specs::Writes::apply_writes))]
 pub fn carry_out(ram: &mut [u16], s: Settings, p: Plan, v: Record)
     ensures { ram.new ≡ apply_writes (writes_of s p v) ram.old }
 {
-    let deed = p.deed;
-    let entry = p.entry;
-    let window = deed.window;
-    let words = v.words;
-    let area = s.area;
-    store_words(ram, window, words, deed.stored);
-    move_pointer(ram, s, deed);
-    put_entry(ram, deed, entry, v);
-    put(ram, stack_pointer_place(area), entry.after);
+    store_words(ram, p.deed.window, v.words, p.deed.stored);
+    move_pointer(ram, s, p.deed);
+    put_entry(ram, p.deed, p.entry, v);
+    put(ram, stack_pointer_place(s.area), p.entry.after);
 }

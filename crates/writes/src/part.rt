@@ -1,7 +1,7 @@
 // What a write of a message is: which of the list of writes.
 
 // Each write of a message is one of these.
-#[derive(Clone, Copy)]
+#[derive(Clone, Copy, Debug, PartialEq, Eq)]
 pub enum Part {
     // a data word, by its place in the message, counted from 1
     Data(u16),
