@@ -1,4 +1,5 @@
 pub mod Runs
+pub mod Added
 pub mod Numerals
 pub mod TwoDigits
 pub mod Lines

@@ -4,7 +4,7 @@ use native.Mathlib.Omega.{arith}
 use mathlib.Core.Path.{◌≡◌, refl}
 use mathlib.Core.Logic.{⊎_elim}
 use mathlib.Core.Bool.{Bool, true, false}
-use mathlib.Core.List.{List}
+use mathlib.Core.List.{List, [], ◌∷◌}
 use lib.ListN.{length, length-append}
 use lib.Dec.{eqb}
 use borrow.Author.Tests.{eqb-true}
@@ -24,15 +24,16 @@ pub length_three : (x y z : ℕ) → length (three_words x y z) ≡ 15
 unfolding three_words
 length_three x y z = simp (length-append, length_hex) (omega arith)
 
-length_nothing : length (decimal_text 0) ≡ 1
+-- an accepted record's number
+pub decimal_nothing : decimal_text 0 ≡ 48 ∷ []
 unfolding decimal_text digits places_up_to
-length_nothing = refl
+decimal_nothing = refl
 
 -- an accepted record's number is 0, one digit
-accepted_most : (a : Answer) → a.number ≡ 0 → length (accepted_columns a) ≤ 50
+pub accepted_most : (a : Answer) → a.number ≡ 0 → length (accepted_columns a) ≤ 50
 unfolding accepted_columns
 accepted_most a e =
-    let n : length (decimal_text a.number) ≡ 1 = rw (e, length_nothing) in
+    let n : length (decimal_text a.number) ≡ 1 = rw (e, decimal_nothing) in
     simp (length-append, length_three, length_status, length_hex) (omega (arith, n, decimal_most a.sent))
 
 refused_most : (refusal : ℕ) → length (refused_columns refusal) ≤ 50

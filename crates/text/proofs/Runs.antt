@@ -5,11 +5,12 @@ use native.Mathlib.Omega.{arith}
 use mathlib.Core.Path.{◌≡◌, refl, sym, ◌∙◌}
 use mathlib.Core.Logic.{⊎_elim}
 use mathlib.Core.Bool.{Bool, true, ◌&&◌}
-use mathlib.Core.List.{List, [], ◌∷◌, ◌++◌}
-use lib.ListN.{length, get_or, set, take, length-append}
-use lib.Seq.{sets, take-suc, set_comm, set_out, length-take-le}
+use mathlib.Core.List.{List, [], ◌∷◌, ◌++◌, append_assoc}
+use lib.ListN.{length, get_or, set, take, drop, length-append}
+use lib.Seq.{sets, take-suc, set_comm, set_out, length-take-le, sets-eq, drop-drop}
 use lib.Dec.{ltb, leb}
 use borrow.Author.Tests.{ltb-true, leb-true, le-leb, lt-leb}
+use borrow.Rule.Slice.PartMut.{put_mid}
 use Rattle.words.proofs.Basics.{lt_or_ge, and_left, and_right}
 use Rattle.words.proofs.Runs.{sets_append}
 use Rattle.text.specs.Text.{hex_digit, hex_text, place_after, Put, PutFirst}
@@ -54,6 +55,19 @@ sets_hex l at w = sets_four l at _ _ _ _
 pub length_hex : (w : ℕ) → length (hex_text w) ≡ 4
 unfolding hex_text
 length_hex w = refl
+
+-- a run that takes the place of a part as long
+pub part_set :
+    (l xs ys : List ℕ) (at : ℕ) (k : ℕ) → ys ≡ xs → k ≡ length xs → at + length xs ≤ length l →
+    put_mid at k l ys ≡ sets l at xs
+part_set l xs ys at k e f h =
+    rw (
+      e,
+      f,
+      sets-eq xs l at h,
+      drop-drop (length xs) at l,
+      append_assoc (take at l) xs (drop (at + length xs) l),
+    )
 
 -- ---- places
 

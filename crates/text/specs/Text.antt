@@ -1,6 +1,7 @@
 -- Numbers as text, in ASCII, and text put into a buffer. "Stored words are four hexadecimal digits, the rest decimal."
 use Rattle.std.specs.Prelude.{ℕ, zero, suc, ◌+◌, ◌-◌, ◌/◌, ◌%◌, ◌^◌, ◌<◌, min, ◌≡◌, cond, List, [], ◌∷◌, ◌++◌, length, ltb}
 use Rattle.std.proofs.lemmas.List.Edits.{sets}
+use Rattle.text.specs.declared.text.Text.{Text}
 
 -- `0` to `9`, then `A` to `F`
 unfoldable pub hex_digit : ℕ → ℕ
@@ -46,3 +47,11 @@ pub record Put (old : List ℕ) (at : ℕ) (text : List ℕ) (new : List ℕ) (n
 pub record PutFirst (old text new : List ℕ) (used : ℕ) : Type 0 where
   pub bytes : new ≡ sets old 0 text
   pub length : used ≡ length text
+
+-- `text` added behind the text `old` gives the text `new`: put from the place of `old` on, into the same buffer
+pub record Adds (old : Text) (text : List ℕ) (new : Text) : Type 0 where
+  pub put : Put old.out.now old.at text new.out.now new.at
+  -- what a caller lent stays lent, at its length
+  pub lent : new.out.ref_ptr ≡ old.out.ref_ptr
+  pub name : new.out.ghost_name ≡ old.out.ghost_name
+  pub length : length new.out.now ≡ length old.out.now

@@ -1,78 +1,74 @@
 // The columns of an accepted record's line, where there is room for them: no byte is tested to lie in the buffer.
-ghost use Rattle.std.specs.Prelude.{◌+◌, ◌≤◌, ◌<◌, ◌≡◌, length};
-ghost use Rattle.text.specs.Text.{Put, hex_text, decimal_text};
-ghost use Rattle.text.specs.Line.{column, none_text, status_text, three_words, accepted_columns};
-ghost use Rattle.text.specs.Table.{hex_table};
+ghost use Rattle.std.specs.Prelude.{◌+◌, ◌≤◌, ◌≡◌, length};
+ghost use Rattle.text.specs.Text.{Adds, hex_text, decimal_text};
+ghost use Rattle.text.specs.Line.{column, status_text, three_words, accepted_columns};
 
-use crate::decimal::put_few;
-use crate::table::copy_hex;
-use crate::text::write_byte;
+use crate::table::HexTable;
+use crate::text::Text;
 use message::answer::Answer;
 
-// A column of a stored word.
-fn copy_word(out: &mut [u8], at: usize, w: u16, table: &[u8]) -> usize
-    requires { (at + 5 ≤ length out.old) × (table.now ≡ hex_table) }
-    ensures put { Put out.old at (column (hex_text w)) out.new result }
-    ensures near { result ≡ at + 5 }
-{
-    let digits = write_byte(out, at, 32);
-    copy_hex(out, digits, w, table)
-}
-
-fn copy_three(out: &mut [u8], at: usize, x: u16, y: u16, z: u16, table: &[u8]) -> usize
-    requires { (at + 15 ≤ length out.old) × (table.now ≡ hex_table) }
-    ensures put { Put out.old at (three_words x y z) out.new result }
-    ensures near { result ≡ at + 15 }
-{
-    let second = copy_word(out, at, x, table);
-    let third = copy_word(out, second, y, table);
-    copy_word(out, third, z, table)
-}
-
-// "none" where no status was sent.
-fn copy_none(out: &mut [u8], at: usize) -> usize
-    requires { at + 5 ≤ length out.old }
-    ensures put { Put out.old at (column none_text) out.new result }
-    ensures near { result ≡ at + 5 }
-{
-    let n = write_byte(out, at, 32);
-    let o = write_byte(out, n, 110);
-    let last_n = write_byte(out, o, 111);
-    let e = write_byte(out, last_n, 110);
-    write_byte(out, e, 101)
-}
-
-fn copy_status(out: &mut [u8], at: usize, answered: bool, status: u16, table: &[u8]) -> usize
-    requires { (at + 5 ≤ length out.old) × (table.now ≡ hex_table) }
-    ensures put { Put out.old at (column (status_text answered status)) out.new result }
-    ensures near { result ≡ at + 5 }
-{
-    if answered {
-        copy_word(out, at, status, table)
-    } else {
-        copy_none(out, at)
+impl Text<'_> {
+    // A column of a stored word.
+    #[inline(always)]
+    fn write_word(&mut self, w: u16, table: &HexTable)
+        requires { self.old.at + 5 ≤ length self.old.out.now }
+        ensures { Adds self.old (column (hex_text w)) self.new }
+    {
+        let (first, second) = table.pair((w / 256) as u8);
+        let (third, fourth) = table.pair((w % 256) as u8);
+        self.write([b' ', first, second, third, fourth]);
     }
-}
 
-// A column of a number of one digit or two.
-fn copy_number(out: &mut [u8], at: usize, n: u16) -> usize
-    requires { (at + 3 ≤ length out.old) × (n < 100) }
-    ensures put { Put out.old at (column (decimal_text n)) out.new result }
-    ensures near { result ≤ at + 3 }
-{
-    let digits = write_byte(out, at, 32);
-    put_few(out, digits, n)
-}
+    // A column of a number.
+    #[inline(always)]
+    #[tactic(auto, using(crate::proofs::Numerals::decimal_most))]
+    fn write_number(&mut self, n: u64)
+        requires { self.old.at + 21 ≤ length self.old.out.now }
+        ensures { Adds self.old (column (decimal_text n)) self.new }
+    {
+        self.write([b' ']);
+        self.write_decimal(n);
+    }
 
-// All of them take under 32 bytes.
-pub(crate) fn copy_accepted(out: &mut [u8], at: usize, a: Answer, table: &[u8]) -> usize
-    requires { (at + 32 ≤ length out.old) × ((table.now ≡ hex_table) × ((a.number ≡ 0) × (a.sent < 100))) }
-    ensures { Put out.old at (accepted_columns a) out.new result }
-{
-    let words = copy_number(out, at, 0);
-    let status = copy_three(out, words, a.block_status, a.before, a.after, table);
-    let sent = copy_status(out, status, a.answered, a.status, table);
-    let interrupt = copy_number(out, sent, a.sent);
-    let end = copy_word(out, interrupt, a.interrupt, table);
-    write_byte(out, end, 10)
+    // The status column: the word, or "none" where none was sent.
+    #[inline(always)]
+    #[tactic(auto, unfolding(crate::specs::Line::status_text, crate::specs::Line::none_text))]
+    fn write_status(&mut self, a: Answer, table: &HexTable)
+        requires { self.old.at + 5 ≤ length self.old.out.now }
+        ensures { Adds self.old (column (status_text a.answered a.status)) self.new }
+    {
+        if a.answered {
+            self.write_word(a.status, table);
+        } else {
+            self.write(*b" none");
+        }
+    }
+
+    // The words before the status column.
+    #[inline(always)]
+    #[tactic(auto, using(crate::proofs::Runs::length_hex))]
+    fn write_three(&mut self, a: Answer, table: &HexTable)
+        requires { self.old.at + 15 ≤ length self.old.out.now }
+        ensures { Adds self.old (three_words a.block_status a.before a.after) self.new }
+    {
+        self.write_word(a.block_status, table);
+        self.write_word(a.before, table);
+        self.write_word(a.after, table);
+    }
+
+    // All of them take 50 bytes at most. The number of an accepted record is 0.
+    #[tactic(auto, using(crate::proofs::Runs::length_hex, crate::proofs::Lines::length_three, crate::proofs::Lines::length_status, crate::proofs::Numerals::decimal_most))]
+    #[inline(always)]
+    pub(crate) fn write_accepted(&mut self, a: Answer, table: &HexTable)
+        requires room { self.old.at + 50 ≤ length self.old.out.now }
+        requires accepted { a.number ≡ 0 }
+        ensures { Adds self.old (accepted_columns a) self.new }
+    {
+        self.write(*b" 0");
+        self.write_three(a, table);
+        self.write_status(a, table);
+        self.write_number(u64::from(a.sent));
+        self.write_word(a.interrupt, table);
+        self.write([b'\n']);
+    }
 }

@@ -1,54 +1,105 @@
-// Decimal numbers where there is room for them, two digits at a time: no byte is tested to lie in the buffer.
-ghost use Rattle.std.specs.Prelude.{◌+◌, ◌≤◌, ◌<◌, length};
-ghost use Rattle.text.specs.Text.{Put, digits, decimal_text};
+// Decimal numbers, four digits at a time.
+ghost use Rattle.std.specs.Prelude.{◌≡◌, ◌+◌, ◌≤◌, ◌<◌, length};
+ghost use Rattle.text.specs.Text.{Adds, digits, decimal_text};
 
-use crate::text::write_byte;
+use crate::text::Text;
 
-// The last two digits of n.
-fn put_pair(out: &mut [u8], at: usize, n: u16) -> usize
-    requires { at + 2 ≤ length out.old }
-    ensures { Put out.old at (digits 2 n) out.new result }
-{
-    let last = write_byte(out, at, 48 + (n / 10 % 10) as u8);
-    write_byte(out, last, 48 + (n % 10) as u8)
-}
+// A number has at most so many digits.
+const MOST_DIGITS: usize = 20;
 
-// A number of one digit or two.
-pub(crate) fn put_few(out: &mut [u8], at: usize, n: u16) -> usize
-    requires { (at + 2 ≤ length out.old) × (n < 100) }
-    ensures put { Put out.old at (decimal_text n) out.new result }
-    ensures near { result ≤ at + 2 }
-{
-    if n < 10 {
-        write_byte(out, at, 48 + n as u8)
-    } else {
-        put_pair(out, at, n)
+impl Text<'_> {
+    // The last two digits of n.
+    #[inline(always)]
+    #[tactic(auto, unfolding(crate::specs::Text::digits))]
+    fn write_pair(&mut self, n: u16)
+        requires { self.old.at + 2 ≤ length self.old.out.now }
+        ensures { Adds self.old (digits 2 n) self.new }
+    {
+        self.write([b'0' + (n / 10 % 10) as u8, b'0' + (n % 10) as u8]);
     }
-}
 
-// A number of up to four digits.
-fn put_short(out: &mut [u8], at: usize, n: u16) -> usize
-    requires { (at + 4 ≤ length out.old) × (n < 10000) }
-    ensures put { Put out.old at (decimal_text n) out.new result }
-    ensures near { result ≤ at + 4 }
-{
-    if n < 100 {
-        return put_few(out, at, n);
+    // A number of one digit or two, that there is room for.
+    #[inline(always)]
+    fn write_few(&mut self, n: u16)
+        requires few { n < 100 }
+        requires room { self.old.at + length (decimal_text n) ≤ length self.old.out.now }
+        ensures { Adds self.old (decimal_text n) self.new }
+    {
+        if n < 10 {
+            self.write([b'0' + n as u8]);
+        } else {
+            self.write_pair(n);
+        }
     }
-    let next = put_few(out, at, n / 100);
-    put_pair(out, next, n % 100)
-}
 
-// A number of up to eight digits.
-pub(crate) fn put_long(out: &mut [u8], at: usize, n: u32) -> usize
-    requires { (at + 8 ≤ length out.old) × (n < 100000000) }
-    ensures { Put out.old at (decimal_text n) out.new result }
-{
-    if n < 10000 {
-        return put_short(out, at, n as u16);
+    // A number of up to four digits, that there is room for.
+    #[inline(always)]
+    fn write_short(&mut self, n: u16)
+        requires few { n < 10000 }
+        requires room { self.old.at + length (decimal_text n) ≤ length self.old.out.now }
+        ensures { Adds self.old (decimal_text n) self.new }
+    {
+        if n < 100 {
+            self.write_few(n);
+        } else {
+            self.write_few(n / 100);
+            self.write_pair(n % 100);
+        }
     }
-    let low = (n % 10000) as u16;
-    let third = put_short(out, at, (n / 10000) as u16);
-    let last = put_pair(out, third, low / 100);
-    put_pair(out, last, low % 100)
+
+    // A number that there is room for.
+    #[cycle(decimal)]
+    pub(crate) fn write_decimal(&mut self, n: u64)
+        requires { self.old.at + length (decimal_text n) ≤ length self.old.out.now }
+        ensures { Adds self.old (decimal_text n) self.new }
+    {
+        if n < 10000 {
+            self.write_short(n as u16);
+        } else if n < 100000000 {
+            self.write_short((n / 10000) as u16);
+            self.write_pair((n / 100 % 100) as u16);
+            self.write_pair((n % 100) as u16);
+        } else {
+            self.write_long(n);
+        }
+    }
+
+    // A number of more digits than most have. Apart, since a function that calls itself saves registers at each call.
+    #[cold]
+    #[inline(never)]
+    #[cycle(decimal)]
+    fn write_long(&mut self, n: u64)
+        requires long { 100 ≤ n }
+        requires room { self.old.at + length (decimal_text n) ≤ length self.old.out.now }
+        ensures { Adds self.old (decimal_text n) self.new }
+    {
+        self.write_decimal(n / 100);
+        self.write_pair((n % 100) as u16);
+    }
+
+    // Near the buffer's end: the number is put aside, and as much of it into the buffer as there is room for.
+    #[cold]
+    #[inline(never)]
+    #[tactic(auto, using(crate::proofs::Numerals::decimal_most))]
+    fn put_aside(&mut self, n: u64)
+        ensures { Adds self.old (decimal_text n) self.new }
+    {
+        let mut room = [0u8; MOST_DIGITS];
+        let mut aside = Text { out: &mut room, at: 0 };
+        aside.write_decimal(n);
+        let used = aside.at;
+        self.put_bytes(&room[..used]);
+    }
+
+    // A decimal number.
+    #[tactic(auto, using(crate::proofs::Numerals::decimal_most))]
+    pub fn put_decimal(&mut self, n: u64)
+        ensures { Adds self.old (decimal_text n) self.new }
+    {
+        if self.has_room(MOST_DIGITS) {
+            self.write_decimal(n);
+        } else {
+            self.put_aside(n);
+        }
+    }
 }

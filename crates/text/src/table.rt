@@ -1,36 +1,36 @@
 // The two hexadecimal digits of every byte, worked out once for the words of many lines.
-ghost use Rattle.std.specs.Prelude.{◌+◌, ◌≤◌, ◌≡◌, length};
-ghost use Rattle.text.specs.Text.{Put, hex_text};
+ghost use Rattle.std.specs.Prelude.{◌≡◌, ◌/◌, ◌%◌};
+ghost use Rattle.text.specs.Text.{hex_digit};
 ghost use Rattle.text.specs.Table.{hex_table};
 
-use crate::text::{hex_digit, write_byte};
-use words::choose::pick;
+use crate::text::hex_digit;
 
 // The digits of byte b stand at places 2b and 2b + 1.
-pub type Table = [u8; 512];
-
-pub fn hex_table() -> Table
-    ensures { result ≡ hex_table }
-{
-    let mut table = [0u8; 512];
-    let mut i: usize = 0;
-    while i < 512 {
-        table[i] = hex_digit(pick(i % 2 == 0, (i / 32) as u16, (i / 2 % 16) as u16));
-        i += 1;
-    }
-    table
+#[derive(Drop)]
+pub struct HexTable {
+    digits: [u8; 512],
+    ghost worked_out: { digits ≡ hex_table },
 }
 
-// Four hexadecimal digits, where there is room for them.
-pub(crate) fn copy_hex(out: &mut [u8], at: usize, w: u16, table: &[u8]) -> usize
-    requires { (at + 4 ≤ length out.old) × (table.now ≡ hex_table) }
-    ensures put { Put out.old at (hex_text w) out.new result }
-    ensures near { result ≡ at + 4 }
-{
-    let high = 2 * (w / 256) as usize;
-    let low = 2 * (w % 256) as usize;
-    let second = write_byte(out, at, table[high]);
-    let third = write_byte(out, second, table[high + 1]);
-    let fourth = write_byte(out, third, table[low]);
-    write_byte(out, fourth, table[low + 1])
+impl HexTable {
+    pub fn new() -> HexTable
+        ensures { result.digits ≡ hex_table }
+    {
+        let mut digits = [0u8; 512];
+        for b in 0..256 {
+            digits[2 * b] = hex_digit(b as u16 / 16);
+            digits[2 * b + 1] = hex_digit(b as u16 % 16);
+        }
+        HexTable { digits }
+    }
+
+    // The two digits of a byte.
+    #[inline(always)]
+    pub(crate) fn pair(&self, b: u8) -> (u8, u8)
+        ensures first { result.0 ≡ hex_digit (b / 16) }
+        ensures second { result.1 ≡ hex_digit (b % 16) }
+    {
+        let at = 2 * b as usize;
+        (self.digits[at], self.digits[at + 1])
+    }
 }

@@ -1,13 +1,11 @@
 // Walking a trace: each whole record to the terminal, each answer to a line.
 ghost use Rattle.std.specs.Prelude.{◌≡◌};
 ghost use Rattle.std.proofs.lemmas.List.Edits.{sets};
-ghost use Rattle.text.specs.Table.{hex_table};
 ghost use Rattle.trace.specs.Walk.{Leaves, walk_start, walk_record, walk_all, walked_of};
 
 use message::serve::message_from_bytes;
-use text::line::put_columns;
-use text::table::hex_table;
-use text::text::put_decimal;
+use text::table::HexTable;
+use text::text::Text;
 use words::remembered::Remembered;
 use words::settings::Settings;
 use words::sizes::RECORD_BYTES;
@@ -28,18 +26,19 @@ fn walk_one(
     s: Settings,
     w: Walked,
     bytes: &[u8],
-    table: &[u8],
+    table: &HexTable,
 ) -> Walked
-    requires { table.now ≡ hex_table }
     ensures { Leaves (walk_record s bytes.now (walk_start ram.old reply.old w.remembered w.number)) out.old w.used ram.new reply.new out.new result }
 {
     let number = w.number.wrapping_add(1);
-    let place = put_decimal(out, w.used, number);
+    let mut text = Text { out, at: w.used };
+    text.put_decimal(number);
     let outcome = message_from_bytes(ram, reply, s, w.remembered, bytes);
+    text.put_columns(outcome.answer, table);
     Walked {
         remembered: outcome.remembered,
         number,
-        used: put_columns(out, place, outcome.answer, table),
+        used: text.at,
     }
 }
 
@@ -53,9 +52,8 @@ fn walk_records(
     before: Remembered,
     number: u64,
     trace: &[u8],
-    table: &[u8],
+    table: &HexTable,
 ) -> Walked
-    requires { table.now ≡ hex_table }
     ensures back { result ≡ walked_of (walk_all s trace.now (walk_start ram.old reply.old before number)) }
     ensures ram { ram.new ≡ (walk_all s trace.now (walk_start ram.old reply.old before number)).state.ram }
     ensures reply { reply.new ≡ (walk_all s trace.now (walk_start ram.old reply.old before number)).state.reply }
@@ -87,6 +85,6 @@ pub fn walk(
     ensures reply { reply.new ≡ (walk_all s trace.now (walk_start ram.old reply.old before number)).state.reply }
     ensures out { out.new ≡ sets out.old 0 (walk_all s trace.now (walk_start ram.old reply.old before number)).text }
 {
-    let table = hex_table();
+    let table = HexTable::new();
     walk_records(ram, reply, out, s, before, number, trace, &table)
 }

@@ -1,8 +1,9 @@
 -- The inputs determine the answer: for each public function, any two results that its contract allows are equal, and so
--- are any two last values of each lent word. Each line speaks of the contract as the checker reads it (`Reads.Post`),
--- so that none can drift from its function.
+-- are any two last values of each lent word, and of a lent text. Each line speaks of the contract as the checker reads it
+-- (`Reads.Post`), so that none can drift from its function.
 use mathlib.Core.Path.{refl}
 use Rattle.words.proofs.Settled.{determined, Settled}
+use Rattle.text.proofs.Added.{adds_settled}
 use Rattle.trace_ends.proofs.image
 use Rattle.trace_ends.proofs.last_lines
 
@@ -17,14 +18,11 @@ pub put_image_line_settled : Settled 1 image.put_image_line.Kinds.ps image.put_i
 put_image_line_settled κs a x y v w p q =
     (determined p.length q.length, λ i. (determined p.bytes q.bytes i, v.1))
 
-pub put_tail_settled : Settled 1 last_lines.put_tail.Kinds.ps last_lines.put_tail.Kinds.r last_lines.put_tail.Reads.Post
-put_tail_settled κs a x y v w p q =
-    (determined p.place q.place, λ i. (determined p.bytes q.bytes i, v.1))
+pub put_tail_settled : Settled 2 last_lines.put_tail.Kinds.ps last_lines.put_tail.Kinds.r last_lines.put_tail.Reads.Post
+put_tail_settled κs a x y v w p q = (refl, λ i. (adds_settled p q i, v.1))
 
-pub put_end_settled : Settled 1 last_lines.put_end.Kinds.ps last_lines.put_end.Kinds.r last_lines.put_end.Reads.Post
-put_end_settled κs a x y v w p q =
-    (determined p.place q.place, λ i. (determined p.bytes q.bytes i, v.1))
+pub put_end_settled : Settled 2 last_lines.put_end.Kinds.ps last_lines.put_end.Kinds.r last_lines.put_end.Reads.Post
+put_end_settled κs a x y v w p q = (refl, λ i. (adds_settled p q i, v.1))
 
-pub put_image_settled : Settled 1 image.put_image.Kinds.ps image.put_image.Kinds.r image.put_image.Reads.Post
-put_image_settled κs a x y v w p q =
-    (determined p.place q.place, λ i. (determined p.bytes q.bytes i, v.1))
+pub put_image_settled : Settled 2 image.put_image.Kinds.ps image.put_image.Kinds.r image.put_image.Reads.Post
+put_image_settled κs a x y v w p q = (refl, λ i. (adds_settled p q i, v.1))

@@ -1,29 +1,34 @@
 // The lines after the last whole record.
-ghost use Rattle.text.specs.Text.{Put, PutFirst};
+ghost use Rattle.text.specs.Text.{Adds, PutFirst};
 ghost use Rattle.trace_ends.specs.LastLines.{tail_line, end_line, last_lines};
 
-use text::line::put_named;
+use text::text::Text;
 
 // Nothing where there is no tail.
-pub fn put_tail(out: &mut [u8], at: usize, tail: u64) -> usize
-    ensures { Put out.old at (tail_line tail) out.new result }
+#[tactic(auto, unfolding(crate::specs::LastLines::tail_line))]
+pub fn put_tail(text: &mut Text, tail: u64)
+    ensures { Adds text.old (tail_line tail) text.new }
 {
-    if tail == 0 {
-        return at;
+    // Read, since a proof knows no range of a number that no one read.
+    let _place = text.at;
+    if tail != 0 {
+        text.put_named(b"tail", tail);
     }
-    put_named(out, at, b"tail", tail)
 }
 
-pub fn put_end(out: &mut [u8], at: usize, number: u64) -> usize
-    ensures { Put out.old at (end_line number) out.new result }
+#[tactic(auto, unfolding(crate::specs::LastLines::end_line))]
+pub fn put_end(text: &mut Text, number: u64)
+    ensures { Adds text.old (end_line number) text.new }
 {
-    put_named(out, at, b"end", number)
+    text.put_named(b"end", number);
 }
 
 // The lines after the last whole record: the tail, if there is one, and the end line. Answers their length.
 pub fn put_last_lines(out: &mut [u8], tail: usize, number: u64) -> usize
     ensures { PutFirst out.old (last_lines tail number) out.new result }
 {
-    let end = put_tail(out, 0, tail as u64);
-    put_end(out, end, number)
+    let mut text = Text { out, at: 0 };
+    put_tail(&mut text, tail as u64);
+    put_end(&mut text, number);
+    text.at
 }
