@@ -14,7 +14,7 @@ pub struct View<'a> {
 }
 
 // What taking a record gives: whether there was one, the place after it, and what it reads as.
-#[derive(Clone, Copy)]
+#[derive(Clone, Copy, Debug, PartialEq, Eq)]
 pub struct Taken {
     pub found: bool,
     pub at: usize,

@@ -7,7 +7,7 @@ use words::remembered::{Remembered, nothing_remembered};
 
 // What stands between two parts of a trace, beside RAM: what is remembered, the number of the last record, and the
 // answer so far.
-#[derive(Clone, Copy)]
+#[derive(Clone, Copy, Debug, PartialEq, Eq)]
 pub struct Standing {
     pub remembered: Remembered,
     pub number: u64,

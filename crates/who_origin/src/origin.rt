@@ -11,7 +11,7 @@ use words::settings::{Area, Settings};
 use writes::part::Part;
 
 // A write: the number of its record, counted from 1, the cell of its message, and which of the message's writes it is.
-#[derive(Clone, Copy)]
+#[derive(Clone, Copy, Debug, PartialEq, Eq)]
 pub struct Origin {
     pub number: u64,
     pub cell: u16,
@@ -19,7 +19,7 @@ pub struct Origin {
 }
 
 // The answer.
-#[derive(Clone, Copy)]
+#[derive(Clone, Copy, Debug, PartialEq, Eq)]
 pub enum Who {
     Refused(u16),
     AsInImage,

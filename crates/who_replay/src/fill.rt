@@ -12,7 +12,7 @@ use words::settings::Settings;
 use words::sizes::RECORD_BYTES;
 
 // The number that refuses, or 0, and where the replay stands.
-#[derive(Clone, Copy)]
+#[derive(Clone, Copy, Debug, PartialEq, Eq)]
 pub struct Filled {
     pub number: u16,
     pub at: Filling,

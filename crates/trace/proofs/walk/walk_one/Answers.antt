@@ -1,5 +1,6 @@
 -- `walk_one` meets its contract.
-use Rattle.std.proofs.Common.{rules, refl}
+use borrow.Author.Rules.{rules}
+use mathlib.Core.Path.{refl}
 use Rattle.text.specs.Line.{line_of}
 use Rattle.text.proofs.Added.{adds_then, adds_lent}
 use Rattle.trace.specs.Walk.{walk_record}
@@ -9,6 +10,5 @@ pub returns : goal.returns
 unfolding walk_record line_of
 returns c =
     let m = c.message_from_bytes-outcome.ensures in
-    let a = adds_then c.put_decimal.ensures c.put_columns.ensures in
-    let p = rw m.answer at a in
+    let p = rw m.answer at (adds_then c.put_decimal.ensures c.put_columns.ensures) in
     record { state = m.state; line = adds_lent p (search rules) (search rules); number = refl }
