@@ -6,8 +6,8 @@ ghost use Rattle.layout_long.specs.Conversion.{longer_of, shorter_of};
 ghost use Rattle.c_words.specs.Over.{over};
 ghost use Rattle.c_words_long.specs.LongValues.{long_from, long_words};
 
-use c_words::over::put_bytes;
-use c_words_long::long_values::{long_from, put_long, put_long_bytes};
+use c_words::over::put_over;
+use c_words_long::long_values::{long_from, put_long};
 use layout_long::conversion::{longer, shorter};
 use layout_long::reader::read_long;
 use layout_long::writer::write_long;
@@ -19,8 +19,7 @@ pub extern "C" fn solkverva_read_long(bytes: &[u8], value: &mut [u16]) -> u16
     ensures value { value.new ≡ over value.old (long_words (read_long bytes.now).value) }
 {
     let r = read_long(bytes);
-    let v = r.value;
-    put_long(value, v);
+    put_long(value, r.value);
     r.number
 }
 
@@ -31,8 +30,7 @@ pub extern "C" fn solkverva_write_long(value: &[u16], bytes: &mut [u8]) -> u16
     ensures bytes { bytes.new ≡ over bytes.old (write_long (long_from value.now)).bytes }
 {
     let w = write_long(long_from(value));
-    let written = w.bytes;
-    put_long_bytes(bytes, written);
+    put_over(bytes, 0, &w.bytes);
     w.number
 }
 
@@ -43,8 +41,7 @@ pub extern "C" fn solkverva_longer(old: &[u8], bytes: &mut [u8]) -> u16
     ensures bytes { bytes.new ≡ over bytes.old (longer_of old.now).bytes }
 {
     let w = longer(old);
-    let written = w.bytes;
-    put_long_bytes(bytes, written);
+    put_over(bytes, 0, &w.bytes);
     w.number
 }
 
@@ -55,7 +52,6 @@ pub extern "C" fn solkverva_shorter(long: &[u8], bytes: &mut [u8]) -> u16
     ensures bytes { bytes.new ≡ over bytes.old (shorter_of long.now).bytes }
 {
     let w = shorter(long);
-    let written = w.bytes;
-    put_bytes(bytes, written);
+    put_over(bytes, 0, &w.bytes);
     w.number
 }

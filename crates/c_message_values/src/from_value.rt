@@ -11,6 +11,7 @@ use c_words_messages::values::value_from;
 use message::heard::perform_value;
 
 // One message from a record value.
+#[tactic(auto, using(c_words_messages::proofs::Called::called))]
 #[unsafe(no_mangle)]
 pub extern "C" fn solkverva_message_value(
     ram: &mut [u16],

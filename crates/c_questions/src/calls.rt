@@ -11,10 +11,10 @@ ghost use Rattle.c_words_messages.specs.Values.{value_from, value_words};
 ghost use Rattle.c_words_areas.specs.Labels.{listing_words, count_words};
 
 use area::area::check_area;
-use c_words::over::put_bytes;
+use c_words::over::put_over;
 use c_words::setup::settings_from;
 use c_words_areas::checks::check_word;
-use c_words_areas::labels::{put_cells, put_counts, put_found};
+use c_words_areas::labels::{put_counts, put_found};
 use c_words_messages::values::{put_value, value_from};
 use label::one::find_sharers;
 use label::whole::label_area;
@@ -36,12 +36,12 @@ pub extern "C" fn solkverva_read(bytes: &[u8], value: &mut [u16]) -> u16
     ensures value { value.new ≡ over value.old (value_words (read_record bytes.now).value) }
 {
     let r = read(bytes);
-    let v = r.value;
-    put_value(value, v);
+    put_value(value, r.value);
     r.number
 }
 
 // The record writer. A refusal goes back apart, so that the compiler works nothing out for both.
+#[tactic(auto, using(crate::proofs::Refused::write_refused))]
 #[unsafe(no_mangle)]
 pub extern "C" fn solkverva_write(value: &[u16], bytes: &mut [u8]) -> u16
     ensures number { result ≡ (write_record (value_from value.now)).number }
@@ -49,15 +49,15 @@ pub extern "C" fn solkverva_write(value: &[u16], bytes: &mut [u8]) -> u16
 {
     let w = write(value_from(value));
     if w.number != 0 {
-        put_bytes(bytes, [0u8; 80]);
+        put_over(bytes, 0, &[0; 80]);
         return w.number;
     }
-    let written = w.bytes;
-    put_bytes(bytes, written);
+    put_over(bytes, 0, &w.bytes);
     0
 }
 
 // The label of one cell: how many cells share words with it, and each with its mark.
+#[tactic(auto, using(c_words_areas::proofs::Listed::found_number))]
 #[unsafe(no_mangle)]
 pub extern "C" fn solkverva_label_cell(
     ram: &[u16],
@@ -68,7 +68,7 @@ pub extern "C" fn solkverva_label_cell(
     ensures number { result ≡ (cell_label ram.now (settings_from settings.now) cell).number }
     ensures listing { listing.new ≡ over listing.old (listing_words (cell_label ram.now (settings_from settings.now) cell)) }
 {
-    let mut numbers = [0u16; 89];
+    let mut numbers = [0; 89];
     let found = find_sharers(ram, settings_from(settings), cell, &mut numbers);
     put_found(listing, &numbers, found.count);
     found.number
@@ -90,8 +90,7 @@ pub extern "C" fn solkverva_label_area(
     ensures pairs { pairs.new ≡ pairs_into ram.now (settings_from settings.now) pairs.old }
 {
     let label = label_area(ram, settings_from(settings), pairs);
-    let cells = label.unsound;
     put_counts(counts, label);
-    put_cells(unsound, cells);
+    put_over(unsound, 0, &label.unsound);
     label.number
 }

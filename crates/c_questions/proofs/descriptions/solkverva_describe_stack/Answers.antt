@@ -1,7 +1,0 @@
--- `solkverva_describe_stack` meets its contract.
-use Rattle.c_questions.proofs.descriptions.solkverva_describe_stack.Goals as goal
-
-pub returns : goal.returns
-returns c =
-    let l = c.describe_stack-d.ensures in
-    let s = c.settings_from.ensures in record { number = rw (l, s); description = rw (c.put_stack.ensures, l, s) }
