@@ -20,6 +20,8 @@ pub struct Checked {
 }
 
 // The lowest unsound cell of a kind, of subaddresses 1 to 30. The search ends at the first.
+// Inlined, so that the compiler decides by the kind once for them all.
+#[inline(always)]
 #[tactic(auto, using(crate::proofs::Lowest::search_turns))]
 fn lowest_of_kind(ram: &[u16], s: Settings, stack: Window, kind: Kind) -> Option<u16>
     ensures { let first = lowest (λ sub. not (sound_cell (length ram.now) stack (cell_at ram.now s.area kind sub))) 31 in

@@ -6,12 +6,13 @@ use cells::cell::{Cell, cell_at};
 use memory::kind::kind_numbered;
 use words::settings::{Settings, has_broadcast_cells};
 
+// The kind's test first: a loop over the cells of a kind then makes it once.
 #[tactic(auto, unfolding(crate::specs::Area::is_read))]
 pub fn is_read(s: Settings, number: u16) -> bool
     ensures { result ≡ is_read s number }
 {
     let sub = number % 32;
-    (1 <= sub && sub <= 30) && (number < 64 || (has_broadcast_cells(s) && number < 96))
+    (number < 64 || (has_broadcast_cells(s) && number < 96)) && 1 <= sub && sub <= 30
 }
 
 // No cell from this number on is read.
