@@ -22,7 +22,8 @@ pub struct Sharer {
     pub writes: bool,
 }
 
-// The number, how many cells are listed, and those cells from the first place on; the rest is zero.
+// The number, how many cells are listed, and those cells from the first place on; the rest is zero. An array with a
+// count, since there is no heap.
 #[derive(Clone, Copy, Debug, PartialEq, Eq)]
 pub struct CellLabel {
     pub number: u16,

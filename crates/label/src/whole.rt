@@ -11,7 +11,8 @@ use label_spans::span::{Span, Spans, read_spans, spans_meet};
 use memory::ram::put;
 use words::settings::Settings;
 
-// The number, the unsound cells, how many there are, and how many pairs there are in all; the rest is zero.
+// The number, the unsound cells, how many there are, and how many pairs there are in all; the rest is zero. An array
+// with a count, since there is no heap.
 #[derive(Clone, Copy, Debug, PartialEq, Eq)]
 pub struct AreaLabel {
     pub number: u16,
@@ -21,7 +22,7 @@ pub struct AreaLabel {
 }
 
 // The pairs of which this cell is the lower, from the place `used` on. Answers the place after them. A cell that takes
-// no part has none.
+// no part has none. A place, and not the rest of the slice, since pairs are counted past its end, too.
 fn put_pairs_with(spans: &Spans, end: u16, lower: u16, pairs: &mut [u16], used: usize) -> usize
     requires { ((lower < end) × (end ≤ 96)) × (used ≤ 9216) }
     ensures words { pairs.new ≡ sets pairs.old used (pair_words (pairs_with (places_meet spans.now) end lower)) }
