@@ -5,26 +5,22 @@ use mathlib.Core.Path.{◌≡◌}
 use mathlib.Core.List.{List, [], ◌∷◌, flat_map}
 use lib.ListN.{length, get_or, take, drop}
 use lib.Seq.{take_all}
-use Rattle.text.specs.Text.{Put, newline}
-use Rattle.text.proofs.Runs.{put_none, put_then}
+use Rattle.text.specs.declared.text.Text.{Text}
+use Rattle.text.specs.Text.{Adds, newline}
+use Rattle.text.proofs.Added.{adds_none, adds_then}
 use Rattle.wording.specs.Wording.{cell_text, unsound_name, also_text, unsound_line}
 
-pub no_cells :
-    (l cells : List ℕ) (at : ℕ) →
-    length l < 2 ^ 64 →
-    at < 2 ^ 64 →
-    length cells ≡ 0 →
-    Put l at (unsound_line cells) l at
+pub no_cells : (cells : List ℕ) {t : Text} → length t.out.now < 2 ^ 64 → t.at < 2 ^ 64 → length cells ≡ 0 → Adds t (unsound_line cells) t
 unfolding unsound_line
-no_cells l [] at h k e = put_none h k
-no_cells l (x ∷ xs) at h k e = absurd (omega arith)
+no_cells [] h k e = adds_none h k
+no_cells (x ∷ xs) h k e = absurd (omega arith)
 
 pub first_and_others :
-    (cells l l₁ l₂ l₃ l₄ : List ℕ) (at p q : ℕ) {r t : ℕ} → 0 < length cells → Put l at unsound_name l₁ p →
-    Put l₁ p (cell_text (get_or cells 0 0)) l₂ q → Put l₂ q (flat_map also_text (take (length cells - 1) (drop 1 cells))) l₃ r → Put l₃ r newline l₄ t →
-    Put l at (unsound_line cells) l₄ t
+    (cells : List ℕ) {t t₁ t₂ t₃ t₄ : Text} → 0 < length cells → Adds t unsound_name t₁ →
+    Adds t₁ (cell_text (get_or cells 0 0)) t₂ → Adds t₂ (flat_map also_text (take (length cells - 1) (drop 1 cells))) t₃ → Adds t₃ newline t₄ →
+    Adds t (unsound_line cells) t₄
 unfolding unsound_line
-first_and_others [] l l₁ l₂ l₃ l₄ at p q h a b c d = absurd (omega arith)
-first_and_others (x ∷ xs) l l₁ l₂ l₃ l₄ at p q h a b c d =
+first_and_others [] h a b c d = absurd (omega arith)
+first_and_others (x ∷ xs) h a b c d =
     let all : take (length (x ∷ xs) - 1) xs ≡ xs = take_all (length (x ∷ xs) - 1) xs (omega arith) in
-    put_then (put_then (put_then a b) (rw all at c)) d
+    adds_then (adds_then (adds_then a b) (rw all at c)) d

@@ -1,76 +1,68 @@
-// The label's whole text into a lent buffer, as far as it reaches. Each function answers the place after what it puts
-// there, so that a caller sees what did not fit.
+// The label's whole text into a lent buffer, as far as it reaches. A text counts on past the buffer's end, so that a caller
+// sees what did not fit.
 ghost use mathlib.Core.List.{flat_map};
 ghost use Rattle.std.specs.Prelude.{take};
-ghost use Rattle.text.specs.Text.{Put, PutFirst};
+ghost use Rattle.text.specs.Text.{Adds, PutFirst};
 ghost use Rattle.label.specs.Label.{sharer_numbered};
 ghost use Rattle.wording.specs.Wording.{also_text, unsound_line, meet_line};
 ghost use Rattle.label_text.specs.Printed.{word_line, AreaFits, CellFits, lines_of, cell_lines_of, area_text, one_cell_text};
 
 use label::one::{CellLabel, label_cell, sharer_numbered};
 use label::whole::{AreaLabel, label_area};
-use text::line::{put_named, put_newline};
-use text::text::put_bytes;
+use text::text::Text;
 use wording::wording::{put_cell, put_meeting, put_refused};
 use words::settings::Settings;
 
 // The lines of pairs, each in one word.
-fn put_pairs(out: &mut [u8], at: usize, pairs: &[u16]) -> usize
-    ensures { Put out.old at (flat_map word_line pairs.now) out.new result }
+fn put_pairs(text: &mut Text, pairs: &[u16])
+    ensures { Adds text.old (flat_map word_line pairs.now) text.new }
 {
-    let mut next = at;
-    let mut i: usize = 0;
-    while i < pairs.len() {
-        let word = pairs[i];
-        next = put_meeting(
-            out,
-            next,
-            sharer_numbered(word / 256),
-            sharer_numbered(word % 256),
+    // The place is read for its range: where nothing is put, it has to be one of 64 bits.
+    let _place = text.at;
+    for pair in pairs {
+        put_meeting(
+            text,
+            sharer_numbered(pair / 256),
+            sharer_numbered(pair % 256),
         );
-        i += 1;
     }
-    next
 }
 
 // The other cells of the line of unsound cells.
-fn put_others(out: &mut [u8], at: usize, others: &[u16]) -> usize
-    ensures { Put out.old at (flat_map also_text others.now) out.new result }
+fn put_others(text: &mut Text, others: &[u16])
+    ensures { Adds text.old (flat_map also_text others.now) text.new }
 {
-    let mut next = at;
-    let mut i: usize = 0;
-    while i < others.len() {
-        let named = put_bytes(out, next, b", ");
-        next = put_cell(out, named, others[i]);
-        i += 1;
+    // The place is read for its range: where nothing is put, it has to be one of 64 bits.
+    let _place = text.at;
+    for cell in others {
+        text.put_bytes(b", ");
+        put_cell(text, *cell);
     }
-    next
 }
 
 // The line of unsound cells; nothing where there is none.
-fn put_unsound(out: &mut [u8], at: usize, cells: &[u16]) -> usize
-    ensures { Put out.old at (unsound_line cells.now) out.new result }
+fn put_unsound(text: &mut Text, cells: &[u16])
+    ensures { Adds text.old (unsound_line cells.now) text.new }
 {
-    if cells.len() == 0 {
-        return at;
+    // The place is read for its range: where nothing is put, it has to be one of 64 bits.
+    let _place = text.at;
+    if let [first, others @ ..] = cells {
+        text.put_bytes(b"unsound: ");
+        put_cell(text, *first);
+        put_others(text, others);
+        text.put_newline();
     }
-    let named = put_bytes(out, at, b"unsound: ");
-    let first = put_cell(out, named, cells[0]);
-    let end = put_others(out, first, &cells[1..]);
-    put_newline(out, end)
 }
 
 // The lines of a label that is not refused.
-fn put_area_lines(out: &mut [u8], label: AreaLabel, pairs: &[u16]) -> usize
-    requires { AreaFits label pairs.now }
-    ensures { Put out.old 0 (lines_of label pairs.now) out.new result }
+fn put_area_lines(text: &mut Text, label: &AreaLabel, pairs: &[u16])
+    requires { AreaFits label.now pairs.now }
+    ensures { Adds text.old (lines_of label.now pairs.now) text.new }
 {
-    let count = label.pairs as usize;
-    let lines = put_pairs(out, 0, &pairs[..count]);
-    let unsound = label.unsound;
-    let named = label.unsound_count as usize;
-    let last = put_unsound(out, lines, &unsound[..named]);
-    put_named(out, last, b"pairs", label.pairs as u64)
+    put_pairs(text, &pairs[..usize::from(label.pairs)]);
+    let named = usize::from(label.unsound_count);
+    put_unsound(text, &label.unsound[..named]);
+    text.put_named(b"pairs", u64::from(label.pairs));
 }
 
 // The label of the whole area.
@@ -79,35 +71,35 @@ pub fn put_area_text(out: &mut [u8], ram: &[u16], s: Settings) -> usize
 {
     let mut pairs = [0u16; 4005];
     let label = label_area(ram, s, &mut pairs);
+    let mut text = Text { out, at: 0 };
     if label.number != 0 {
-        return put_refused(out, 0, label.number);
+        put_refused(&mut text, label.number);
+    } else {
+        put_area_lines(&mut text, &label, &pairs);
     }
-    put_area_lines(out, label, &pairs)
+    text.at
 }
 
 // The lines of the cells that share a page with one.
-fn put_sharers(out: &mut [u8], cell: u16, label: CellLabel) -> usize
-    requires { CellFits label }
-    ensures { Put out.old 0 (flat_map (meet_line (sharer_numbered cell)) (take label.count label.cells)) out.new result }
+fn put_sharers(text: &mut Text, cell: u16, label: &CellLabel)
+    requires { CellFits label.now }
+    ensures { Adds text.old (flat_map (meet_line (sharer_numbered cell)) (take label.now.count label.now.cells)) text.new }
 {
+    // The place is read for its range: where nothing is put, it has to be one of 64 bits.
+    let _place = text.at;
     let own = sharer_numbered(cell);
-    let mut next: usize = 0;
-    let mut i: usize = 0;
-    while i < label.count as usize {
-        let other = label.cells[i];
-        next = put_meeting(out, next, own, other);
-        i += 1;
+    for other in &label.cells[..usize::from(label.count)] {
+        put_meeting(text, own, *other);
     }
-    next
 }
 
 // The lines of a cell's label that is not refused.
-fn put_cell_lines(out: &mut [u8], cell: u16, label: CellLabel) -> usize
-    requires { CellFits label }
-    ensures { Put out.old 0 (cell_lines_of cell label) out.new result }
+fn put_cell_lines(text: &mut Text, cell: u16, label: &CellLabel)
+    requires { CellFits label.now }
+    ensures { Adds text.old (cell_lines_of cell label.now) text.new }
 {
-    let last = put_sharers(out, cell, label);
-    put_named(out, last, b"cells", label.count as u64)
+    put_sharers(text, cell, label);
+    text.put_named(b"cells", u64::from(label.count));
 }
 
 // The label of one cell.
@@ -115,8 +107,11 @@ pub fn put_cell_text(out: &mut [u8], ram: &[u16], s: Settings, cell: u16) -> usi
     ensures { PutFirst out.old (one_cell_text ram.now s cell) out.new result }
 {
     let label = label_cell(ram, s, cell);
+    let mut text = Text { out, at: 0 };
     if label.number != 0 {
-        return put_refused(out, 0, label.number);
+        put_refused(&mut text, label.number);
+    } else {
+        put_cell_lines(&mut text, cell, &label);
     }
-    put_cell_lines(out, cell, label)
+    text.at
 }

@@ -9,7 +9,7 @@ use text::text::Text;
 pub fn put_tail(text: &mut Text, tail: u64)
     ensures { Adds text.old (tail_line tail) text.new }
 {
-    // Read, since a proof knows no range of a number that no one read.
+    // The place is read for its range: where nothing is put, it has to be one of 64 bits.
     let _place = text.at;
     if tail != 0 {
         text.put_named(b"tail", tail);

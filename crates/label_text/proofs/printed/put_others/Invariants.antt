@@ -1,13 +1,9 @@
--- `put_others` meets its contract. The loop's invariant: the first `i` cells are named.
-use Prim.Native.Nat.{◌-◌, ◌≤◌}
+-- `put_others` meets its contract. The loop's invariant: the cells so far are named.
 use mathlib.Core.List.{flat_map}
-use lib.ListN.{length, take}
-use Rattle.text.specs.Text.{Put}
+use lib.ListN.{take}
+use Rattle.text.specs.Text.{Adds}
 use Rattle.wording.specs.Wording.{also_text}
 use Rattle.label_text.proofs.printed.put_others.Given as goal
 
-abbrev pub invariant-loop-i : goal.invariant-loop-i
-invariant-loop-i l = (l.i ≤ length l.others) × Put l.initial.out l.at (flat_map also_text (take l.i l.others)) l.out l.next
-
-abbrev pub decreases-loop-i : goal.decreases-loop-i
-decreases-loop-i l = length l.others - l.i
+abbrev pub invariant-loop-cell : goal.invariant-loop-cell
+invariant-loop-cell l = Adds l.initial.text (flat_map also_text (take l.cell-index l.others)) l.text
