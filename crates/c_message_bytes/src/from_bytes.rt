@@ -10,7 +10,7 @@ use message::heard::perform_bytes;
 
 // One message from record bytes. The number is the result; the answer's words, the number first, and the remembered
 // state are put over what is lent.
-#[tactic(auto, using(c_words_messages::proofs::Called::called))]
+#[tactic(auto, using(c_words_messages::proofs::Called::called_number, c_words_messages::proofs::Called::called_lent))]
 #[unsafe(no_mangle)]
 pub extern "C" fn solkverva_message(
     ram: &mut [u16],

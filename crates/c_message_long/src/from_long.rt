@@ -10,7 +10,7 @@ use message::long::perform_long;
 
 // One message from the bytes of a long record. The number is the result; the answer's words, the number first, and the remembered
 // state are put over what is lent.
-#[tactic(auto, using(c_words_messages::proofs::Called::called))]
+#[tactic(auto, using(c_words_messages::proofs::Called::called_number, c_words_messages::proofs::Called::called_lent))]
 #[unsafe(no_mangle)]
 pub extern "C" fn solkverva_message_long(
     ram: &mut [u16],

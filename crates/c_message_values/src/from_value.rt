@@ -11,7 +11,7 @@ use c_words_messages::values::value_from;
 use message::heard::perform_value;
 
 // One message from a record value.
-#[tactic(auto, using(c_words_messages::proofs::Called::called))]
+#[tactic(auto, using(c_words_messages::proofs::Called::called_number, c_words_messages::proofs::Called::called_lent))]
 #[unsafe(no_mangle)]
 pub extern "C" fn solkverva_message_value(
     ram: &mut [u16],

@@ -8,20 +8,19 @@ ghost use Rattle.c_words.specs.Over.{over};
 ghost use Rattle.c_words.specs.Setup.{settings_from, remembered_words};
 ghost use Rattle.c_who.specs.Origins.{part_words, filling_from, lent_tables_of, tables_in, tables_after};
 
+use c_words::over::put_over;
 use c_words::setup::{put_remembered, remembered_from, settings_from};
-use memory::ram::put;
 use who::values::{Values, values_of};
 use who_origin::origin::Who;
 use who_replay::fill::fill;
 use who_replay::question::ask;
 use who_tables::table::{Filling, entry_at, number_at, put_number};
 
+#[tactic(auto, unfolding(crate::specs::Origins::part_words))]
 fn put_part(xs: &mut [u16], v: Values)
     ensures { xs.new ≡ over xs.old (part_words v) }
 {
-    put(xs, 2, v.place);
-    put(xs, 1, v.cell);
-    put(xs, 0, v.kind);
+    put_over(xs, 0, &[v.kind, v.cell, v.place]);
 }
 
 // An answer's values put over what is lent; the number that refuses is the result.
@@ -36,12 +35,12 @@ fn tell(last: &mut [u64], part: &mut [u16], w: Who) -> u16
     v.number
 }
 
+#[tactic(auto, unfolding(crate::specs::Origins::filling_from))]
 fn filling_from(remembered: &[u16], records: &[u64]) -> Filling
     ensures { result ≡ filling_from remembered.now records.now }
 {
-    let m = remembered_from(remembered);
     Filling {
-        remembered: m,
+        remembered: remembered_from(remembered),
         number: number_at(records, 0),
     }
 }
@@ -50,8 +49,7 @@ fn put_filling(remembered: &mut [u16], records: &mut [u64], at: Filling)
     ensures remembered { remembered.new ≡ over remembered.old (remembered_words at.remembered) }
     ensures records { records.new ≡ over records.old (at.number ∷ []) }
 {
-    let m = at.remembered;
-    put_remembered(remembered, m);
+    put_remembered(remembered, at.remembered);
     put_number(records, 0, at.number);
 }
 
@@ -76,8 +74,7 @@ pub extern "C" fn solkverva_who_fill(
     if filled.number != 0 {
         return filled.number;
     }
-    let end = filled.at;
-    put_filling(remembered, records, end);
+    put_filling(remembered, records, filled.at);
     0
 }
 

@@ -35,16 +35,24 @@ module _ (s : Settings) (h : Heard) (l : Lent) where
       (λ (m : refusal_for s h (state_in l) ≡ 0 → ⊥). rw (ne_eqb (refusal_for s h (state_in l)) 0 m))
       (eq_or_ne (refusal_for s h (state_in l)) 0))
 
-  pub called :
-      (r : Performed) (n : ℕ) (ram reply remembered answer : List ℕ) →
-      r ≡ performed_of s h (state_in l) →
-      ram ≡ (step s h (state_in l)).ram →
-      reply ≡ (step s h (state_in l)).reply →
-      n ≡ (answer_in r).number →
-      remembered ≡ remembered_over r l.remembered →
-      answer ≡ over l.answer (answer_words (answer_in r)) →
-      (n ≡ call_number s h l) × (lent_of ram reply remembered answer ≡ lent_after s h l)
-  unfolding call_number lent_after handed_back
-  called r n ram reply remembered answer performed left sent e f g =
-      let told = answer_told s h (remembered_from l.remembered) l.ram l.reply in
-      (rw (e, performed, told) (number_told s h (state_in l)), rw (left, sent, f, g, performed, told, remembered_put))
+  module _
+      (r : Performed)
+      (ram reply remembered answer : List ℕ)
+      (performed : r ≡ performed_of s h (state_in l))
+    where
+      pub called_number : (n : ℕ) → n ≡ (answer_in r).number → n ≡ call_number s h l
+      unfolding call_number
+      called_number n e =
+          let told = answer_told s h (remembered_from l.remembered) l.ram l.reply in
+          rw (e, performed, told) (number_told s h (state_in l))
+
+      pub called_lent :
+          ram ≡ (step s h (state_in l)).ram →
+          reply ≡ (step s h (state_in l)).reply →
+          remembered ≡ remembered_over r l.remembered →
+          answer ≡ over l.answer (answer_words (answer_in r)) →
+          lent_of ram reply remembered answer ≡ lent_after s h l
+      unfolding lent_after handed_back
+      called_lent left sent f g =
+          let told = answer_told s h (remembered_from l.remembered) l.ram l.reply in
+          rw (left, sent, f, g, performed, told, remembered_put)
