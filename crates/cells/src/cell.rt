@@ -38,16 +38,18 @@ pub struct Lookup {
     pub double: bool,
 }
 
-// The five bits of a kind, lowest first: size, circular interrupt, end-of-message interrupt.
+// The five bits of a kind, lowest first: size, circular interrupt, end-of-message interrupt. One shift, since a division
+// in each arm costs the label of an area 6 instructions a cell.
 #[tactic(auto, unfolding(crate::specs::Cell::control_part))]
 fn control_part(control: u16, kind: Kind) -> u16
     ensures { result ≡ control_part control kind }
 {
-    match kind {
-        Kind::Receive => control / 32 % 32,
-        Kind::Transmit => control / 1024 % 32,
-        Kind::Broadcast => control % 32,
-    }
+    let shift = match kind {
+        Kind::Receive => 5,
+        Kind::Transmit => 10,
+        Kind::Broadcast => 0,
+    };
+    (control >> shift) % 32
 }
 
 fn size_of(m: u16) -> u16
@@ -119,8 +121,8 @@ fn lookup_for(ram: &[u16], area: Area, kind: Kind, subaddress: u16) -> Lookup
     }
 }
 
-// The same cell, for whoever asks often for cells of one kind, or for one cell. A twin of `cell_at`, since a way for each
-// kind is measured as faster.
+// The same cell, for whoever asks often for cells of one kind, or for one cell. A twin of `cell_at`, since a way for
+// each kind is measured as faster.
 #[tactic(auto, unfolding(crate::specs::Cell::cell_at))]
 pub fn cell_by_kind(ram: &[u16], area: Area, kind: Kind, subaddress: u16) -> Cell
     ensures { result ≡ cell_at ram.now area kind subaddress }
@@ -151,15 +153,21 @@ fn double_fits(scheme: Scheme, pointer: u16) -> bool
     }
 }
 
-// Over the cell and its window, for whoever has worked it out. The tests stop at the first that fails.
+// Over the cell and its window, for whoever has worked it out. Early returns, since of one `&&` the compiler makes every
+// test (`docs/BENCH.md`).
 pub fn sound_within(words: usize, stack: Window, c: Cell, w: Window) -> bool
     ensures { result ≡ sound_within words stack c w }
 {
-    fits_below(w, words)
-        && !meets_fixed(w)
-        && !windows_meet(w, stack)
-        && (c.pointer as usize) < words
-        && double_fits(c.scheme, c.pointer)
+    if !fits_below(w, words) {
+        return false;
+    }
+    if meets_fixed(w) {
+        return false;
+    }
+    if windows_meet(w, stack) {
+        return false;
+    }
+    ((c.pointer as usize) < words) & double_fits(c.scheme, c.pointer)
 }
 
 #[tactic(auto, unfolding(crate::specs::Cell::sound_cell))]

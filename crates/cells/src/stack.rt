@@ -22,14 +22,18 @@ pub fn stack_window(ram: &[u16], s: Settings) -> Window
     aligned_around(stack_pointer(ram, s), s.stack_size)
 }
 
-// Over the pointer and the block, for whoever has worked them out.
+// Over the pointer and the block, for whoever has worked them out. Early returns, since of one `&&` the compiler makes
+// every test (`docs/BENCH.md`).
 pub fn stack_fits(words: usize, pointer: u16, block: Window) -> bool
     ensures { result ≡ stack_fits words pointer block }
 {
-    fits_below(block, words)
-        && !meets_fixed(block)
-        && pointer % 4 == 0
-        && (pointer as usize) + 4 <= words
+    if !fits_below(block, words) {
+        return false;
+    }
+    if meets_fixed(block) {
+        return false;
+    }
+    pointer % 4 == 0 && (pointer as usize) + 4 <= words
 }
 
 #[tactic(auto, unfolding(crate::specs::Stack::stack_sound))]

@@ -1,6 +1,6 @@
-// Reading and writing lent memory: RAM, and the tables and texts that are lent beside it. All is total: a place past the
-// end reads what is asked for there and takes nothing, so definition and code agree everywhere. A sound message never
-// goes there.
+// Reading and writing lent memory: RAM, and the tables and texts that are lent beside it. All is total: a place past
+// the end reads as the caller says, 0 in RAM, and takes nothing, so definition and code agree everywhere. A sound
+// message never goes there.
 ghost use Rattle.std.specs.Prelude.{◌≡◌, get_or, set};
 
 // The item at a place, or else this other one.

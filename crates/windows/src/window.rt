@@ -76,22 +76,30 @@ pub fn rolls_over(w: Window, k: u16) -> bool
     (w.size as usize) <= (w.offset as usize) + (k as usize)
 }
 
-// Whether two windows share a word.
+// Whether two windows share a word. No `&&`: with it, here and in `sound_within`, the check of an area takes 5 in 100 more
+// instructions (`docs/BENCH.md`).
 #[tactic(auto, unfolding(crate::specs::Window::meets))]
 pub fn windows_meet(v: Window, w: Window) -> bool
     ensures { result ≡ windows_meet v w }
 {
-    (v.start as usize) < w.end() && (w.start as usize) < v.end()
+    ((v.start as usize) < w.end()) & ((w.start as usize) < v.end())
 }
 
-// Whether a window meets a fixed area. Most windows lie above them all, and one test tells.
+// Whether a window meets a fixed area. Most windows lie above them all, and one test tells. Early returns, since of one
+// `&&` the compiler makes every test (`docs/BENCH.md`).
 #[tactic(auto, unfolding(crate::specs::Window::meets_fixed, crate::specs::Window::meets))]
 pub fn meets_fixed(w: Window) -> bool
     ensures { result ≡ meets_fixed w }
 {
     let start = w.start as usize;
     let end = w.end();
-    start < 0x400 && 0x100 < end && (start < 0x248 || 0x300 < end)
+    if 0x400 <= start {
+        return false;
+    }
+    if end <= 0x100 {
+        return false;
+    }
+    start < 0x248 || 0x300 < end
 }
 
 // Whether a window lies in RAM of this length.
