@@ -1,23 +1,23 @@
-// The controller's machine from plain numbers, and a run as plain numbers, put from the first to the last.
+// The controller's machine from plain numbers, and a run as plain numbers.
 ghost use Rattle.std.specs.Prelude.{◌≡◌};
 ghost use Rattle.control.specs.Machine.{refusal_in};
 ghost use Rattle.c_words.specs.Over.{over};
 ghost use Rattle.c_control.specs.Numbers.{last_number, last_from, machine_numbers, machine_from, machine_left, ran_numbers};
 
+use c_words::over::put_over;
 use control::machine::{Machine, end_kind, refusal_in};
 use control::run::Ran;
 use control_words::condition::Outcome;
-use who_tables::table::{number_at, put_number};
-use words::bits::bit_of;
-use words::choose::smaller;
+use who_tables::table::number_at;
 
+#[tactic(auto, unfolding(crate::specs::Numbers::last_number))]
 fn last_number(o: Outcome) -> u64
     ensures { result ≡ last_number o }
 {
-    let number = bit_of(o.no_status) + 2 * bit_of(o.other_fault) + 4 * bit_of(o.good_transfer);
-    number as u64
+    u64::from(o.no_status) + 2 * u64::from(o.other_fault) + 4 * u64::from(o.good_transfer)
 }
 
+#[tactic(auto, unfolding(crate::specs::Numbers::last_from))]
 fn last_from(n: u64) -> Outcome
     ensures { result ≡ last_from n }
 {
@@ -28,67 +28,56 @@ fn last_from(n: u64) -> Outcome
     }
 }
 
+#[tactic(auto, unfolding(crate::specs::Numbers::machine_from))]
 pub(crate) fn machine_from(xs: &[u64]) -> Machine
     ensures { result ≡ machine_from xs.now }
 {
-    let pointer = number_at(xs, 0) as usize;
-    let flags = (number_at(xs, 1) % 256) as u16;
-    let last = last_from(number_at(xs, 2));
-    let depth = smaller(number_at(xs, 3) as usize, 4);
-    let first = number_at(xs, 4) as usize;
-    let second = number_at(xs, 5) as usize;
-    let third = number_at(xs, 6) as usize;
-    let fourth = number_at(xs, 7) as usize;
-    let place = number_at(xs, 8) as usize;
     Machine {
-        pointer,
-        flags,
-        last,
-        depth,
-        calls: [first, second, third, fourth],
-        place,
+        pointer: number_at(xs, 0) as usize,
+        flags: (number_at(xs, 1) % 256) as u16,
+        last: last_from(number_at(xs, 2)),
+        depth: number_at(xs, 3).min(4) as usize,
+        calls: [4, 5, 6, 7].map(|at| number_at(xs, at) as usize),
+        place: number_at(xs, 8) as usize,
     }
 }
 
+#[tactic(auto, unfolding(crate::specs::Numbers::machine_numbers))]
 fn put_machine(xs: &mut [u64], m: Machine)
     ensures { xs.new ≡ over xs.old (machine_numbers m) }
 {
-    let last = m.last;
-    let calls = m.calls;
-    let number = last_number(last);
-    put_number(xs, 0, m.pointer as u64);
-    put_number(xs, 1, m.flags as u64);
-    put_number(xs, 2, number);
-    put_number(xs, 3, m.depth as u64);
-    put_number(xs, 4, calls[0] as u64);
-    put_number(xs, 5, calls[1] as u64);
-    put_number(xs, 6, calls[2] as u64);
-    put_number(xs, 7, calls[3] as u64);
-    put_number(xs, 8, m.place as u64);
+    let numbers = [
+        m.pointer as u64,
+        u64::from(m.flags),
+        last_number(m.last),
+        m.depth as u64,
+        m.calls[0] as u64,
+        m.calls[1] as u64,
+        m.calls[2] as u64,
+        m.calls[3] as u64,
+        m.place as u64,
+    ];
+    put_over(xs, 0, &numbers);
 }
 
+#[tactic(auto, unfolding(crate::specs::Numbers::ran_numbers))]
 fn put_ran(xs: &mut [u64], r: Ran)
     ensures { xs.new ≡ over xs.old (ran_numbers r) }
 {
-    let end = r.end;
-    let kind = end_kind(end);
-    put_number(xs, 0, kind as u64);
-    put_number(xs, 1, r.steps);
+    put_over(xs, 0, &[u64::from(end_kind(r.end)), r.steps]);
 }
 
 // A run told in what is lent; the number that refuses is the result, and then the machine keeps its contents.
+#[tactic(auto, unfolding(crate::specs::Numbers::machine_left))]
 pub(crate) fn tell(machine: &mut [u64], ran: &mut [u64], r: Ran) -> u16
     ensures number { result ≡ refusal_in r.end }
     ensures machine { machine.new ≡ machine_left machine.old r }
     ensures ran { ran.new ≡ over ran.old (ran_numbers r) }
 {
-    let end = r.end;
-    let left = r.machine;
     put_ran(ran, r);
-    let number = refusal_in(end);
-    if number != 0 {
-        return number;
+    let number = refusal_in(r.end);
+    if number == 0 {
+        put_machine(machine, r.machine);
     }
-    put_machine(machine, left);
-    0
+    number
 }

@@ -23,8 +23,7 @@ pub extern "C" fn solkverva_control(
     ensures machine { machine.new ≡ machine_left machine.old (started_at ram.now trace.now start flags budget) }
     ensures ran { ran.new ≡ over ran.old (ran_numbers (started_at ram.now trace.now start flags budget)) }
 {
-    let r = start_at(ram, trace, start, flags, budget);
-    tell(machine, ran, r)
+    tell(machine, ran, start_at(ram, trace, start, flags, budget))
 }
 
 // A run that goes on from the machine that is lent.
@@ -41,6 +40,5 @@ pub extern "C" fn solkverva_control_on(
     ensures ran { ran.new ≡ over ran.old (ran_numbers (gone_on ram.now trace.now (machine_from machine.old) budget)) }
 {
     let m = machine_from(machine);
-    let r = go_on(ram, trace, m, budget);
-    tell(machine, ran, r)
+    tell(machine, ran, go_on(ram, trace, m, budget))
 }
