@@ -21,9 +21,6 @@ table_settled x y e = λ i. record {
 pub new_settled : Settled 0 Table.new.Kinds.ps Table.new.Kinds.r Table.new.Reads.Post
 new_settled κs a x y v w p q = (table_settled x y (determined p q), refl)
 
-pub put_byte_settled : Settled 2 Text.put_byte.Kinds.ps Text.put_byte.Kinds.r Text.put_byte.Reads.Post
-put_byte_settled κs a x y v w p q = (refl, λ i. (adds_settled p q i, v.1))
-
 pub put_bytes_settled : Settled 3 Text.put_bytes.Kinds.ps Text.put_bytes.Kinds.r Text.put_bytes.Reads.Post
 put_bytes_settled κs a x y v w p q = (refl, λ i. (adds_settled p q i, v.1))
 

@@ -13,7 +13,7 @@ pub struct Text<'a> {
 
 impl Text<'_> {
     // A byte, as far as there is room for it.
-    pub fn put_byte(&mut self, b: u8)
+    pub(crate) fn put_byte(&mut self, b: u8)
         ensures { Adds self.old (b ∷ []) self.new }
     {
         if self.at < self.out.len() {

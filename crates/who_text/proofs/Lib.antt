@@ -1,3 +1,4 @@
 pub mod Read
 pub mod Most
+pub mod Asked
 pub mod Determined

@@ -1,6 +1,15 @@
 -- An address as a person asks for it: four hexadecimal digits and the end of the line.
-use Rattle.std.specs.Prelude.{ℕ, ◌+◌, ◌*◌, ◌-◌, ◌%◌, Bool, cond, ◌&&◌, List, get_or, ltb, eqb}
-use Rattle.who_text.specs.declared.address.Asked.{Asked}
+use Rattle.std.specs.Prelude.{ℕ, ◌+◌, ◌*◌, ◌-◌, ◌%◌, Bool, true, false, cond, ◌&&◌, List, get_or, ltb, eqb, Option, Some, None}
+
+-- an address that was read, or none
+pub record Asked : Type 0 where
+  pub there : Bool
+  pub address : ℕ
+
+-- the same from what the function answers
+abbrev pub asked_of : Option ℕ → Asked
+asked_of None = record { there = false; address = 0 }
+asked_of (Some address) = record { there = true; address = address }
 
 -- a digit's value, `0` to `9` and `A` to `F`; 16 for a byte that is none
 unfoldable pub digit_of : ℕ → ℕ
