@@ -9,6 +9,7 @@
 
 use streams::input::{Filled, fill};
 use streams::output::print;
+use text::text::Text;
 use trace_ends::image::{load_image, put_image_line};
 use who::standing::{Standing, begin};
 use who_replay::question::go_on;
@@ -56,7 +57,9 @@ fn replay(rt: &HostRuntime, ram: &mut [u16], buffer: &mut [u8], out: &mut [u8], 
         w = refill(rt, ram, buffer, address, w);
     }
     if w.well {
-        let used = put_who_line(out, 0, address, w.at.who);
+        let mut text = Text { out, at: 0 };
+        put_who_line(&mut text, address, w.at.who);
+        let used = text.at;
         print(rt, out, used, true);
     }
 }
@@ -96,9 +99,8 @@ fn who(
     if filled.failed {
         return;
     }
-    let asked = read_address(line);
-    if asked.there {
-        image_and_trace(rt, ram, image, buffer, out, asked.address);
+    if let Some(address) = read_address(line) {
+        image_and_trace(rt, ram, image, buffer, out, address);
         return;
     }
     print(rt, b"address\n", 8, true);

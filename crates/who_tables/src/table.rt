@@ -26,7 +26,8 @@ pub struct Filling {
     pub number: u64,
 }
 
-// A number of the table, 0 past its end.
+// A number of the table, 0 past its end. A function beside `item_or`, as `put_number` beside `put`, since
+// `docs/STATEMENTS.md` names their promises and the C interface's crates call them.
 pub fn number_at(numbers: &[u64], at: usize) -> u64
     ensures { result ≡ get_or numbers.now at 0 }
 {
