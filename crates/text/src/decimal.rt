@@ -85,7 +85,10 @@ impl Text<'_> {
         ensures { Adds self.old (decimal_text n) self.new }
     {
         let mut room = [0u8; MOST_DIGITS];
-        let mut aside = Text { out: &mut room, at: 0 };
+        let mut aside = Text {
+            out: &mut room,
+            at: 0,
+        };
         aside.write_decimal(n);
         let used = aside.at;
         self.put_bytes(&room[..used]);

@@ -39,7 +39,10 @@ impl Text<'_> {
         ensures { Adds self.old (accepted_columns a) self.new }
     {
         let mut room = [0u8; MOST_COLUMNS];
-        let mut aside = Text { out: &mut room, at: 0 };
+        let mut aside = Text {
+            out: &mut room,
+            at: 0,
+        };
         aside.write_accepted(a, table);
         let used = aside.at;
         self.put_bytes(&room[..used]);
