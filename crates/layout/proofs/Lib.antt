@@ -3,6 +3,7 @@ pub mod Fields
 pub mod Turns
 pub mod Cases
 pub mod Places
+pub mod Swapped
 pub mod Limits
 pub mod Parts
 pub mod Inverse

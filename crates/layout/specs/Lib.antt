@@ -1,3 +1,4 @@
+pub mod Swapped
 pub mod Fields
 pub mod Layout
 pub mod Writing

@@ -1,3 +1,4 @@
+pub mod Carried
 pub mod TwoRuns
 pub mod Replied
 pub mod Listed
