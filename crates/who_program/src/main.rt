@@ -9,6 +9,7 @@
 
 use streams::input::fill;
 use streams::output::print;
+use text::text::Text;
 use trace_ends::image::{load_image, put_image_line};
 use who::standing::{Standing, begin};
 use who_replay::question::go_on;
@@ -60,7 +61,9 @@ fn replay(rt: &HostRuntime, ram: &mut [u16], buffer: &mut [u8], out: &mut [u8], 
     if w.well {
         let end = w.at;
         let who = end.who;
-        let used = put_who_line(out, 0, address, who);
+        let mut text = Text { out, at: 0 };
+        put_who_line(&mut text, address, who);
+        let used = text.at;
         print(rt, out, used, true);
     }
 }
@@ -101,9 +104,8 @@ fn who(
     if filled.failed {
         return;
     }
-    let asked = read_address(line);
-    if asked.there {
-        image_and_trace(rt, ram, image, buffer, out, asked.address);
+    if let Some(address) = read_address(line) {
+        image_and_trace(rt, ram, image, buffer, out, address);
         return;
     }
     print(rt, b"address\n", 8, true);
