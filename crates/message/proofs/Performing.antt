@@ -15,6 +15,12 @@ use Rattle.words.proofs.Refusals.{last_no}
 use Rattle.words.proofs.Basics.{eq_or_ne, yes_or_no}
 use Rattle.memory.specs.State.{State, state_of}
 use Rattle.memory.specs.Map.{ram_refused}
+use Rattle.windows.specs.declared.window.Window.{Window}
+use Rattle.cells.specs.declared.cell.Cell.{Cell}
+use Rattle.cells.specs.Cell.{window_of}
+use Rattle.cells.specs.Stack.{stack_pointer, stack_window}
+use Rattle.lookup.specs.declared.target.Target.{Target}
+use Rattle.lookup.specs.Target.{cell_for, target_with, target_of}
 use Rattle.plan.specs.declared.plan.Plan.{Plan}
 use Rattle.words.specs.declared.refusal.Refusal.{Refusal}
 use Rattle.words.specs.Refusals.{number_of}
@@ -27,7 +33,7 @@ use Rattle.message.specs.Tests.{early_tests, record_tests, command_tests, refusa
 use Rattle.message.specs.declared.answer.Outcome.{Outcome}
 use Rattle.message.specs.Heard.{Heard}
 use Rattle.message.specs.Message.{carried_out, answer_of, step}
-use Rattle.message.specs.Performed.{perform_tests, performed_with, performed_as, performed_of, answer_in, remembered_in}
+use Rattle.message.specs.Performed.{perform_tests, found_for, performed_with, performed_as, performed_of, answer_in, remembered_in}
 use Rattle.message.proofs.Refusals.{refused_answer, refused_state, accepted_answer, accepted_state}
 use Rattle.message.proofs.InTurn.{stops_early, stops_record, passes_record, ram_passed}
 
@@ -81,6 +87,16 @@ performed_as-injective (Err refusal) (Err other) e =
 -- a refusal's number is not 0
 pub refused_some : (refusal : Refusal) → eqb (number_of refusal) 0 ≡ false
 refused_some refusal = ne_eqb (number_of refusal) 0 (number_of-positive refusal)
+
+-- ---- what is worked out once, by the tests, is what the definitions work out
+
+module _ (ram : List ℕ) (s : Settings) (pointer : ℕ) (block : Window) (p : pointer ≡ stack_pointer ram s) (w : block ≡ stack_window ram s) where
+  module _ (command : ℕ) (c : Cell) (window : Window) (e : c ≡ cell_for ram s command) (f : window ≡ window_of c.scheme c.pointer) where
+    pub all_found :
+        (t : Target) → t ≡ target_with ram s command c window →
+        record { target = t; pointer = pointer; block = block } ≡ found_for ram s command
+    unfolding target_of
+    all_found t g = rw (g, f, e, w, p)
 
 -- after the early tests the number is that of the command's
 pub command_number :

@@ -24,12 +24,12 @@ use Rattle.writes.specs.Copies.{sent_writes}
 use Rattle.writes.specs.Runs.{run_writes, goes_once, runs_of}
 
 -- what the test before the runs says
-record Once (w : Window) (words n : ℕ) : Type 0 where
-  inside : w.offset < w.size
-  few : n ≤ w.size
-  fits : w.start + w.size ≤ words
+pub record Once (w : Window) (words n : ℕ) : Type 0 where
+  pub inside : w.offset < w.size
+  pub few : n ≤ w.size
+  pub fits : w.start + w.size ≤ words
 
-once_says : (w : Window) (words n : ℕ) → goes_once w words n ≡ true → Once w words n
+pub once_says : (w : Window) (words n : ℕ) → goes_once w words n ≡ true → Once w words n
 unfolding goes_once
 once_says w words n e =
     let q = and_left (ltb w.offset w.size && leb n w.size) (leb (w.start + w.size) words) e in
@@ -39,18 +39,18 @@ once_says w words n e =
       fits = leb-true _ _ (and_right (ltb w.offset w.size && leb n w.size) (leb (w.start + w.size) words) e);
     }
 
--- the runs share out the words: each has its places straight on, and all lie in RAM of this length
-pub record TwoRuns (w : Window) (words n : ℕ) (r : Runs) : Type 0 where
+-- the runs share out the words: each has its places straight on, and all lie in the window
+pub record TwoRuns (w : Window) (n : ℕ) (r : Runs) : Type 0 where
   pub all : r.first + r.rest ≡ n
   pub first : (k : ℕ) → k < r.first → place_of w k ≡ r.pointer + k
   pub second : (k : ℕ) → k < r.rest → place_of w (r.first + k) ≡ r.start + k
-  pub first_end : r.pointer + r.first ≤ words
-  pub second_end : r.start + r.rest ≤ words
+  pub first_end : r.pointer + r.first ≤ w.start + w.size
+  pub second_end : r.start + r.rest ≤ w.start + w.size
 
-runs_share : (w : Window) (words n : ℕ) (r : Runs) → Once w words n → r ≡ runs_of w n → TwoRuns w words n r
+pub two_runs :
+    (w : Window) (n : ℕ) (r : Runs) → w.offset < w.size → n ≤ w.size → r ≡ runs_of w n → TwoRuns w n r
 unfolding rolls_over runs_of
-runs_share w words n r o e =
-    let i = o.inside in
+two_runs w n r o l e =
     let p : r.pointer ≡ w.start + w.offset = ap (λ (x : Runs). x.pointer) e in
     let f : r.first ≡ min n (w.size - w.offset) = ap (λ (x : Runs). x.first) e in
     let s : r.start ≡ w.start = ap (λ (x : Runs). x.start) e in
@@ -65,22 +65,32 @@ runs_share w words n r o e =
             s,
             f,
             q,
-            place_wrapped w (r.first + k) i (omega (arith, f, q)) (le-leb w.size (w.offset + (r.first + k)) (omega (arith, f, q))),
+            place_wrapped w (r.first + k) o (omega (arith, f, q)) (le-leb w.size (w.offset + (r.first + k)) (omega (arith, f, q))),
           );
       first_end = omega (arith, p, f);
       second_end = omega (arith, s, f, q);
     }
 
--- where there are runs, the window lies in RAM and the walk goes once
-pub two_runs :
+-- where there are runs, the window lies in RAM and the walk goes once: they share out the words, and all lie in RAM
+pub record RunsInRam (w : Window) (words n : ℕ) (r : Runs) : Type 0 where
+  pub shared : TwoRuns w n r
+  pub first_end : r.pointer + r.first ≤ words
+  pub second_end : r.start + r.rest ≤ words
+
+runs_once : (w : Window) (words n : ℕ) (r : Runs) → Once w words n → r ≡ runs_of w n → RunsInRam w words n r
+runs_once w words n r o e =
+    let t = two_runs w n r o.inside o.few e in
+    record { shared = t; first_end = omega (arith, t.first_end, o.fits); second_end = omega (arith, t.second_end, o.fits) }
+
+pub runs_in_ram :
     (w : Window) (words n : ℕ) (r : Runs) → Some r ≡ cond (goes_once w words n) (Some (runs_of w n)) None →
-    TwoRuns w words n r
-two_runs w words n r e =
+    RunsInRam w words n r
+runs_in_ram w words n r e =
     ⊎_elim
     (λ (y : goes_once w words n ≡ true).
     let f = rw y at e in
     let same : r ≡ runs_of w n = cc in
-    runs_share w words n r (once_says w words n y) same)
+    runs_once w words n r (once_says w words n y) same)
     (λ (no : goes_once w words n ≡ false).
     let f = rw no at e in
     let none : ◌≡◌ {A = Option Runs} (Some r) None = f in
@@ -116,7 +126,7 @@ writes_parts p w p₁ w₁ p₂ w₂ f g a b c d =
     writes_same (λ k. p (f + k)) p₂ (λ k. w (f + k)) w₂ g c d in
     rw (writes_join p w f g, first, second)
 
-module _ (w : Window) (room n : ℕ) (r : Runs) (t : TwoRuns w room n r) where
+module _ (w : Window) (n : ℕ) (r : Runs) (t : TwoRuns w n r) where
   -- storing: the places walk around the window, the words go straight on
   pub stored_in_runs :
       (words m m₁ m₂ : List ℕ) →

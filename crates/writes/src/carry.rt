@@ -32,7 +32,7 @@ fn put_entry(ram: &mut [u16], d: Deed, e: Entry, v: Record)
     put(ram, at + 3, v.command);
 }
 
-#[tactic(auto, using(memory::proofs::Writes::apply_append), unfolding(crate::specs::Writes::list_of, crate::specs::Writes::deed_list, crate::specs::Writes::stack_list, memory::specs::Writes::apply_writes))]
+#[tactic(auto, using(crate::proofs::Carried::plan_carried))]
 pub fn carry_out(ram: &mut [u16], s: Settings, p: Plan, v: Record)
     ensures { ram.new ≡ apply_writes (writes_of s p v) ram.old }
 {
