@@ -23,7 +23,7 @@ pub struct Found {
 
 // The test of RAM's length also tells the compiler how long it is, which then leaves out the bounds tests of fixed
 // places. `full` is the last test, of who keeps more than RAM.
-#[tactic(auto, unfolding(words::specs::Refusal::first_of, cells::specs::Stack::stack_sound, cells::specs::Cell::sound_cell, lookup::specs::Target::target_of, crate::specs::Tests::cell_unsound))]
+#[tactic(auto, using(crate::proofs::Performing::all_found), unfolding(words::specs::Refusal::first_of, cells::specs::Stack::stack_sound, cells::specs::Cell::sound_cell, crate::specs::Tests::cell_unsound))]
 pub(crate) fn test_command(
     ram: &[u16],
     s: Settings,
