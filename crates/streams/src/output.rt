@@ -1,12 +1,26 @@
 // Standard output. Whether all went well so far is handed through, so that nothing is printed after a failure.
-ghost use Rattle.std.specs.Prelude.{◌≡◌, ◌&&◌};
+ghost use Rattle.std.specs.Prelude.{◌≡◌, ◌&&◌, take, min, length};
+ghost use Rattle.std.specs.Counts.{IsPrefixLen};
 
 use std::io::Print;
 
-// Writes the front of the buffer, as far as the buffer reaches. Answers whether it could.
+// How far text of this length reaches into the buffer.
+fn reach(out: &[u8], used: usize) -> usize
+    ensures { (result ≡ min used (length out.now)) × IsPrefixLen result out.now }
+{
+    used.min(out.len())
+}
+
+// The text at the front of the buffer.
+fn front(out: &[u8], used: usize) -> &[u8]
+    ensures { result.now ≡ take (min used (length out.now)) out.now }
+{
+    &out[..reach(out, used)]
+}
+
+// Writes the front of the buffer. Answers whether it could.
 fn write_front(rt: &HostRuntime, out: &[u8], used: usize) -> bool {
-    let end = used.min(out.len());
-    let written = rt.write_all(&out[..end]).is_ok();
+    let written = rt.write_all(front(out, used)).is_ok();
     if !written {
         eprint!(rt; "writing failed\n").unwrap_or(());
     }
