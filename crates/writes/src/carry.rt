@@ -32,12 +32,18 @@ fn put_entry(ram: &mut [u16], d: Deed, e: Entry, v: Record)
     put(ram, at + 3, v.command);
 }
 
+// The parts of the plan are bound first: taken from it at each call, they cost some twenty instructions a message.
 #[tactic(auto, using(crate::proofs::Carried::plan_carried))]
 pub fn carry_out(ram: &mut [u16], s: Settings, p: Plan, v: Record)
     ensures { ram.new ≡ apply_writes (writes_of s p v) ram.old }
 {
-    store_words(ram, p.deed.window, v.words, p.deed.stored);
-    move_pointer(ram, s, p.deed);
-    put_entry(ram, p.deed, p.entry, v);
-    put(ram, stack_pointer_place(s.area), p.entry.after);
+    let deed = p.deed;
+    let entry = p.entry;
+    let window = deed.window;
+    let words = v.words;
+    let area = s.area;
+    store_words(ram, window, words, deed.stored);
+    move_pointer(ram, s, deed);
+    put_entry(ram, deed, entry, v);
+    put(ram, stack_pointer_place(area), entry.after);
 }

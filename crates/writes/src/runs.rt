@@ -44,10 +44,14 @@ pub(crate) fn runs_of(w: Window, words: usize, n: u16) -> Option<Runs>
     })
 }
 
-// n words of `from`, beginning with its place `first`, straight on from place `at`.
+// n words of `from`, beginning with its place `first`, straight on from place `at`. A `for`: `copy_from_slice` is a call
+// here, and a message takes up to 27 instructions more with it.
+#[tactic(auto, using(memory::proofs::Writes::apply_more), unfolding(memory::specs::Writes::apply_writes, memory::specs::Rows::row))]
 pub(crate) fn copy_run(to: &mut [u16], at: usize, from: &[u16], first: usize, n: usize)
     requires { (at + n ≤ length to.old) × (first + n ≤ length from.now) }
     ensures { to.new ≡ apply_writes (run_writes at from.now first n) to.old }
 {
-    to[at..at + n].copy_from_slice(&from[first..first + n]);
+    for k in 0..n {
+        to[at + k] = from[first + k];
+    }
 }
