@@ -16,8 +16,7 @@ fn byte_at(xs: &[u16], i: usize) -> u8
     word_at(xs, i).min(255) as u8
 }
 
-// The words from place 4 on. Where all are there, the compiler sees a copy of fixed length.
-#[tactic(auto, using(words::proofs::Fill::fill_more), unfolding(words::specs::Fill::fill_from))]
+// The words from place 4 on, those that are there. Where all are, the compiler sees a copy of fixed length.
 fn words_from(xs: &[u16]) -> [u16; 32]
     ensures { result ≡ fill (λ k. word_in xs.now (4 + k)) zero_words 32 }
 {
@@ -26,8 +25,8 @@ fn words_from(xs: &[u16]) -> [u16; 32]
         words.copy_from_slice(&xs[4..36]);
         return words;
     }
-    for k in 0..32 {
-        words[k] = word_at(xs, 4 + k);
+    for i in 4..xs.len() {
+        words[i - 4] = xs[i];
     }
     words
 }
