@@ -7,6 +7,19 @@ use crate::text::Text;
 // A number has at most so many digits.
 const MOST_DIGITS: usize = 20;
 
+// How many digits a number has.
+pub(crate) fn places(n: u64) -> usize
+    ensures { result ≡ length (decimal_text n) }
+{
+    let mut count = 1;
+    let mut rest = n;
+    while 10 <= rest {
+        rest /= 10;
+        count += 1;
+    }
+    count
+}
+
 impl Text<'_> {
     // The last two digits of n.
     #[inline(always)]
@@ -99,7 +112,9 @@ impl Text<'_> {
     pub fn put_decimal(&mut self, n: u64)
         ensures { Adds self.old (decimal_text n) self.new }
     {
-        if self.has_room(MOST_DIGITS) {
+        if self.is_past() {
+            self.skip(places(n));
+        } else if self.has_room(MOST_DIGITS) {
             self.write_decimal(n);
         } else {
             self.put_aside(n);

@@ -3,6 +3,7 @@ ghost use Rattle.std.specs.Prelude.{◌≡◌};
 ghost use Rattle.text.specs.Text.{Adds, decimal_text, newline};
 ghost use Rattle.text.specs.Line.{column, accepted_columns, refused_columns, columns_of, named_line};
 
+use crate::decimal::places;
 use crate::table::HexTable;
 use crate::text::Text;
 use message::answer::Answer;
@@ -54,6 +55,8 @@ impl Text<'_> {
     {
         if a.number != 0 {
             self.put_refused(a.number);
+        } else if self.is_past() {
+            self.skip(29 + places(u64::from(a.sent)));
         } else if self.has_room(MOST_COLUMNS) {
             self.write_accepted(a, table);
         } else {
