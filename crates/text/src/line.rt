@@ -22,8 +22,12 @@ impl Text<'_> {
     pub fn put_number(&mut self, n: u64)
         ensures { Adds self.old (column (decimal_text n)) self.new }
     {
-        self.put_byte(b' ');
-        self.put_decimal(n);
+        if self.is_past() {
+            self.skip(1 + places(n));
+        } else {
+            self.put_byte(b' ');
+            self.put_decimal(n);
+        }
     }
 
     fn put_refused(&mut self, refusal: u16)
