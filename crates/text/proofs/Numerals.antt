@@ -100,3 +100,10 @@ unfolding digits
 pair_last n =
     let e : n % 100 / 10 % 10 ≡ n / 10 % 10 = omega arith in
     let f : n % 100 % 10 ≡ n % 10 = omega arith in rw (e, f)
+
+-- of the last four digits, the first two and the last two
+pub pair_before : (n : ℕ) → digits 2 (n % 10000 / 100) ≡ digits 2 (n / 100)
+pair_before n = let e : n % 10000 / 100 ≡ n / 100 % 100 = omega arith in rw (e, pair_last)
+
+pub pair_after : (n : ℕ) → digits 2 (n % 10000 % 100) ≡ digits 2 n
+pair_after n = let e : n % 10000 % 100 ≡ n % 100 = omega arith in rw (e, pair_last)

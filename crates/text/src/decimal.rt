@@ -28,7 +28,10 @@ impl Text<'_> {
         requires { self.old.at + 2 ≤ length self.old.out.now }
         ensures { Adds self.old (digits 2 n) self.new }
     {
-        self.write([b'0' + (n / 10 % 10) as u8, b'0' + (n % 10) as u8]);
+        let at = self.at;
+        self.out[at] = b'0' + (n / 10 % 10) as u8;
+        self.out[at + 1] = b'0' + (n % 10) as u8;
+        self.at = at + 2;
     }
 
     // A number of one digit or two, that there is room for.
@@ -61,6 +64,7 @@ impl Text<'_> {
     }
 
     // A number that there is room for.
+    #[inline(always)]
     #[cycle(decimal)]
     pub(crate) fn write_decimal(&mut self, n: u64)
         requires { self.old.at + length (decimal_text n) ≤ length self.old.out.now }
@@ -69,9 +73,10 @@ impl Text<'_> {
         if n < 10000 {
             self.write_short(n as u16);
         } else if n < 100000000 {
-            self.write_short((n / 10000) as u16);
-            self.write_pair((n / 100 % 100) as u16);
-            self.write_pair((n % 100) as u16);
+            let low = (n as u32 % 10000) as u16;
+            self.write_short((n as u32 / 10000) as u16);
+            self.write_pair(low / 100);
+            self.write_pair(low % 100);
         } else {
             self.write_long(n);
         }

@@ -8,6 +8,9 @@ use crate::table::HexTable;
 use crate::text::Text;
 use message::answer::Answer;
 
+// The column of a number takes at most so many bytes.
+const MOST_NUMBER: usize = 21;
+
 // The columns of an accepted record take at most so many bytes.
 const MOST_COLUMNS: usize = 50;
 
@@ -24,6 +27,9 @@ impl Text<'_> {
     {
         if self.is_past() {
             self.skip(1 + places(n));
+        } else if self.has_room(MOST_NUMBER) {
+            self.write([b' ']);
+            self.write_decimal(n);
         } else {
             self.put_byte(b' ');
             self.put_decimal(n);
