@@ -9,6 +9,7 @@ use Rattle.text.specs.declared.table.HexTable.{HexTable}
 use Rattle.text.specs.Table.{hex_table}
 use Rattle.text.proofs.Added.{adds_settled}
 use Rattle.text.proofs.text.Text
+use Rattle.text.proofs.table
 use Rattle.text.proofs.table.HexTable as Table
 
 -- a table is its digits: what stands beside them is a fact about these
@@ -20,6 +21,12 @@ table_settled x y e = λ i. record {
 
 pub new_settled : Settled 0 Table.new.Kinds.ps Table.new.Kinds.r Table.new.Reads.Post
 new_settled κs a x y v w p q = (table_settled x y (determined p q), refl)
+
+pub hex_table_settled : Settled 0 table.hex_table.Kinds.ps table.hex_table.Kinds.r table.hex_table.Reads.Post
+hex_table_settled κs a x y v w p q = (determined p q, refl)
+
+pub digits_settled : Settled 1 Table.digits.Kinds.ps Table.digits.Kinds.r Table.digits.Reads.Post
+digits_settled κs a x y v w p q = (determined p q, refl)
 
 pub put_bytes_settled : Settled 3 Text.put_bytes.Kinds.ps Text.put_bytes.Kinds.r Text.put_bytes.Reads.Post
 put_bytes_settled κs a x y v w p q = (refl, λ i. (adds_settled p q i, v.1))

@@ -30,11 +30,14 @@ unfolding decimal_text digits places_up_to
 decimal_nothing = refl
 
 -- an accepted record's number is 0, one digit
-pub accepted_most : (a : Answer) → a.number ≡ 0 → length (accepted_columns a) ≤ 50
+pub accepted_long : (a : Answer) → a.number ≡ 0 → length (accepted_columns a) ≡ 29 + length (decimal_text a.sent)
 unfolding accepted_columns
-accepted_most a e =
+accepted_long a e =
     let n : length (decimal_text a.number) ≡ 1 = rw (e, decimal_nothing) in
-    simp (length-append, length_three, length_status, length_hex) (omega (arith, n, decimal_most a.sent))
+    simp (length-append, length_three, length_status, length_hex) (omega (arith, n))
+
+pub accepted_most : (a : Answer) → a.number ≡ 0 → length (accepted_columns a) ≤ 50
+accepted_most a e = omega (arith, accepted_long a e, decimal_most a.sent)
 
 refused_most : (refusal : ℕ) → length (refused_columns refusal) ≤ 50
 unfolding refused_columns

@@ -4,7 +4,7 @@ use native.Mathlib.Nat.{pow-succ'}
 use native.Mathlib.Omega.{arith}
 use mathlib.Core.Path.{◌≡◌, refl}
 use mathlib.Core.Logic.{⊎_elim}
-use mathlib.Core.List.{List, [], ◌∷◌, ◌++◌, append_assoc}
+use mathlib.Core.List.{[], ◌∷◌, ◌++◌, append_assoc}
 use lib.ListN.{length, length-append}
 use borrow.Author.Tests.{lt-ltb, le-ltb}
 use Rattle.words.proofs.Basics.{lt_or_ge}
@@ -70,6 +70,12 @@ decimal_pair n h l =
     rw (places_more 18 n (omega arith), places_more 17 (n / 10) (omega arith), e, places_same 17 0 2 (n / 100) m) in
     rw (p, digits_pair)
 
+-- the last digit, and those in front of it
+pub decimal_less : (n : ℕ) → 10 ≤ n → n < 2 ^ 64 → length (decimal_text n) ≡ 1 + length (decimal_text (n / 10))
+decimal_less n h l =
+    let m : n / 10 < 10 ^ 19 = omega arith in
+    rw (length_decimal, length_decimal, places_more 18 n h, places_same 18 0 1 (n / 10) m) (omega arith)
+
 -- one of more than four: those in front, the two before the last two, and these
 pub decimal_pairs :
     (n : ℕ) → 10000 ≤ n → n < 2 ^ 64 → decimal_text n ≡ decimal_text (n / 10000) ++ digits 2 (n / 100) ++ digits 2 n
@@ -81,6 +87,9 @@ pub decimal_one : (n : ℕ) → n < 10 → decimal_text n ≡ (48 + n) ∷ []
 unfolding decimal_text digits
 decimal_one n h = let e : n % 10 ≡ n = omega arith in rw (places_one 19 n h, e)
 
+pub length_one : (n : ℕ) → n < 10 → length (decimal_text n) ≡ 1
+length_one n h = rw (length_decimal, places_one 19 n h)
+
 pub decimal_two : (n : ℕ) → 10 ≤ n → n < 100 → decimal_text n ≡ digits 2 n
 unfolding decimal_text
 decimal_two n h l = rw (places_more 18 n h, places_one 18 (n / 10) (omega arith))
@@ -91,3 +100,10 @@ unfolding digits
 pair_last n =
     let e : n % 100 / 10 % 10 ≡ n / 10 % 10 = omega arith in
     let f : n % 100 % 10 ≡ n % 10 = omega arith in rw (e, f)
+
+-- of the last four digits, the first two and the last two
+pub pair_before : (n : ℕ) → digits 2 (n % 10000 / 100) ≡ digits 2 (n / 100)
+pair_before n = let e : n % 10000 / 100 ≡ n / 100 % 100 = omega arith in rw (e, pair_last)
+
+pub pair_after : (n : ℕ) → digits 2 (n % 10000 % 100) ≡ digits 2 n
+pair_after n = let e : n % 10000 % 100 ≡ n % 100 = omega arith in rw (e, pair_last)

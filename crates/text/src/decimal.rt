@@ -7,6 +7,19 @@ use crate::text::Text;
 // A number has at most so many digits.
 const MOST_DIGITS: usize = 20;
 
+// How many digits a number has.
+pub(crate) fn places(n: u64) -> usize
+    ensures { result ≡ length (decimal_text n) }
+{
+    let mut count = 1;
+    let mut rest = n;
+    while 10 <= rest {
+        rest /= 10;
+        count += 1;
+    }
+    count
+}
+
 impl Text<'_> {
     // The last two digits of n.
     #[inline(always)]
@@ -15,7 +28,10 @@ impl Text<'_> {
         requires { self.old.at + 2 ≤ length self.old.out.now }
         ensures { Adds self.old (digits 2 n) self.new }
     {
-        self.write([b'0' + (n / 10 % 10) as u8, b'0' + (n % 10) as u8]);
+        let at = self.at;
+        self.out[at] = b'0' + (n / 10 % 10) as u8;
+        self.out[at + 1] = b'0' + (n % 10) as u8;
+        self.at = at + 2;
     }
 
     // A number of one digit or two, that there is room for.
@@ -48,6 +64,7 @@ impl Text<'_> {
     }
 
     // A number that there is room for.
+    #[inline(always)]
     #[cycle(decimal)]
     pub(crate) fn write_decimal(&mut self, n: u64)
         requires { self.old.at + length (decimal_text n) ≤ length self.old.out.now }
@@ -56,9 +73,10 @@ impl Text<'_> {
         if n < 10000 {
             self.write_short(n as u16);
         } else if n < 100000000 {
-            self.write_short((n / 10000) as u16);
-            self.write_pair((n / 100 % 100) as u16);
-            self.write_pair((n % 100) as u16);
+            let low = (n as u32 % 10000) as u16;
+            self.write_short((n as u32 / 10000) as u16);
+            self.write_pair(low / 100);
+            self.write_pair(low % 100);
         } else {
             self.write_long(n);
         }
@@ -99,7 +117,9 @@ impl Text<'_> {
     pub fn put_decimal(&mut self, n: u64)
         ensures { Adds self.old (decimal_text n) self.new }
     {
-        if self.has_room(MOST_DIGITS) {
+        if self.is_past() {
+            self.skip(places(n));
+        } else if self.has_room(MOST_DIGITS) {
             self.write_decimal(n);
         } else {
             self.put_aside(n);

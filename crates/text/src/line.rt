@@ -3,9 +3,13 @@ ghost use Rattle.std.specs.Prelude.{◌≡◌};
 ghost use Rattle.text.specs.Text.{Adds, decimal_text, newline};
 ghost use Rattle.text.specs.Line.{column, accepted_columns, refused_columns, columns_of, named_line};
 
+use crate::decimal::places;
 use crate::table::HexTable;
 use crate::text::Text;
 use message::answer::Answer;
+
+// The column of a number takes at most so many bytes.
+const MOST_NUMBER: usize = 21;
 
 // The columns of an accepted record take at most so many bytes.
 const MOST_COLUMNS: usize = 50;
@@ -21,8 +25,15 @@ impl Text<'_> {
     pub fn put_number(&mut self, n: u64)
         ensures { Adds self.old (column (decimal_text n)) self.new }
     {
-        self.put_byte(b' ');
-        self.put_decimal(n);
+        if self.is_past() {
+            self.skip(1 + places(n));
+        } else if self.has_room(MOST_NUMBER) {
+            self.write([b' ']);
+            self.write_decimal(n);
+        } else {
+            self.put_byte(b' ');
+            self.put_decimal(n);
+        }
     }
 
     fn put_refused(&mut self, refusal: u16)
@@ -54,6 +65,8 @@ impl Text<'_> {
     {
         if a.number != 0 {
             self.put_refused(a.number);
+        } else if self.is_past() {
+            self.skip(29 + places(u64::from(a.sent)));
         } else if self.has_room(MOST_COLUMNS) {
             self.write_accepted(a, table);
         } else {

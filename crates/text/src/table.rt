@@ -6,9 +6,23 @@ ghost use Rattle.text.specs.Table.{hex_table};
 use crate::text::hex_digit;
 
 // The digits of byte b stand at places 2b and 2b + 1.
-#[derive(Drop)]
+pub type Table = [u8; 512];
+
+pub fn hex_table() -> Table
+    ensures { result ≡ hex_table }
+{
+    let mut digits = [0u8; 512];
+    for b in 0..256 {
+        digits[2 * b] = hex_digit(b as u16 / 16);
+        digits[2 * b + 1] = hex_digit(b as u16 % 16);
+    }
+    digits
+}
+
+// The table, and the fact that it is one of the digits.
+#[derive(Clone, Copy, Debug, PartialEq, Eq)]
 pub struct HexTable {
-    digits: [u8; 512],
+    digits: Table,
     ghost worked_out: { digits ≡ hex_table },
 }
 
@@ -16,12 +30,16 @@ impl HexTable {
     pub fn new() -> HexTable
         ensures { result.digits ≡ hex_table }
     {
-        let mut digits = [0u8; 512];
-        for b in 0..256 {
-            digits[2 * b] = hex_digit(b as u16 / 16);
-            digits[2 * b + 1] = hex_digit(b as u16 % 16);
+        HexTable {
+            digits: hex_table(),
         }
-        HexTable { digits }
+    }
+
+    // The digits as they stand in the table.
+    pub fn digits(&self) -> Table
+        ensures { result ≡ hex_table }
+    {
+        self.digits
     }
 
     // The two digits of a byte.

@@ -1,6 +1,6 @@
 // Text into a lent buffer. A byte past the buffer's end is dropped, as in the definition; the place goes on all the same,
 // so that a caller sees what did not fit.
-ghost use Rattle.std.specs.Prelude.{◌≡◌, ◌+◌, ◌<◌, ◌≤◌, ◌↔◌, IsTrue, [], ◌∷◌, length};
+ghost use Rattle.std.specs.Prelude.{ℕ, ◌≡◌, ◌+◌, ◌<◌, ◌≤◌, ◌↔◌, IsTrue, List, [], ◌∷◌, length};
 ghost use Rattle.text.specs.Text.{Adds, hex_digit, hex_text};
 
 // A lent buffer, and the place behind the text in it. The last number stands for every place past it too: no buffer
@@ -42,7 +42,27 @@ impl Text<'_> {
         self.at <= size && n <= size - self.at
     }
 
-    pub fn put_bytes(&mut self, s: &[u8])
+    // Whether the place lies past the buffer's end.
+    #[inline(always)]
+    pub(crate) fn is_past(&self) -> bool
+        ensures { IsTrue result ↔ (length self.now.out.now ≤ self.now.at) }
+    {
+        self.out.len() <= self.at
+    }
+
+    // Past the buffer's end bytes are counted, and none is put.
+    #[inline(always)]
+    pub(crate) fn skip(&mut self, n: usize)
+        requires { length self.old.out.now ≤ self.old.at }
+        ensures { (text : List ℕ) → length text ≡ n → Adds self.old text self.new }
+    {
+        self.at = self.at.saturating_add(n);
+    }
+
+    // Near the buffer's end: as many of the bytes as there is room for.
+    #[cold]
+    #[inline(never)]
+    fn put_each(&mut self, s: &[u8])
         ensures { Adds self.old s.now self.new }
     {
         for b in s {
@@ -50,14 +70,35 @@ impl Text<'_> {
         }
     }
 
+    pub fn put_bytes(&mut self, s: &[u8])
+        ensures { Adds self.old s.now self.new }
+    {
+        if self.is_past() {
+            self.skip(s.len());
+        } else if self.has_room(s.len()) {
+            let end = self.at + s.len();
+            let out = &mut *self.out;
+            out[self.at..end].copy_from_slice(s);
+            self.at = end;
+        } else {
+            self.put_each(s);
+        }
+    }
+
     // A stored word: four hexadecimal digits.
     pub fn put_hex_word(&mut self, w: u16)
         ensures { Adds self.old (hex_text w) self.new }
     {
-        self.put_byte(hex_digit(w / 4096 % 16));
-        self.put_byte(hex_digit(w / 256 % 16));
-        self.put_byte(hex_digit(w / 16 % 16));
-        self.put_byte(hex_digit(w % 16));
+        if self.is_past() {
+            self.skip(4);
+        } else {
+            self.put_bytes(&[
+                hex_digit(w / 4096 % 16),
+                hex_digit(w / 256 % 16),
+                hex_digit(w / 16 % 16),
+                hex_digit(w % 16),
+            ]);
+        }
     }
 }
 

@@ -3,7 +3,7 @@ use Prim.Native.Nat.{◌/◌, ◌%◌}
 use native.Mathlib.Omega.{arith}
 use lib.ListN.{length-append}
 use Rattle.text.proofs.Added.{adds_then, adds_same}
-use Rattle.text.proofs.Numerals.{length_digits, decimal_pair, decimal_pairs, pair_last}
+use Rattle.text.proofs.Numerals.{length_digits, decimal_pair, decimal_pairs, pair_last, pair_before, pair_after}
 use Rattle.text.proofs.text.Text.+decimal.Goals as goal
 
 pub write_decimal-write_short-requires-then-n-lt100000000-clause-room : goal.write_decimal-write_short-requires-then-n-lt100000000-clause-room
@@ -19,15 +19,15 @@ write_decimal-write_pair-requires t c =
 pub write_decimal-write_pair-requires-then-n-lt100000000 : goal.write_decimal-write_pair-requires-then-n-lt100000000
 write_decimal-write_pair-requires-then-n-lt100000000 t c =
     let h = simp (decimal_pairs c.args.n c.if-n-lt10000.false (omega arith), length-append, length_digits) at c.requires in
-    omega (arith, h, length_digits 2 (c.args.n / 100 % 100))
+    omega (arith, h, length_digits 2 (c.args.n % 10000 / 100))
 
 pub write_decimal-returns-then-n-lt100000000 : goal.write_decimal-returns-then-n-lt100000000
 write_decimal-returns-then-n-lt100000000 t c =
     let n = c.args.n in
     rw (decimal_pairs n c.if-n-lt10000.false (omega arith))
     (adds_then
-    (adds_then c.write_short-then-n-lt100000000.ensures (adds_same (pair_last (n / 100)) c.write_pair.ensures))
-    (adds_same (pair_last n) c.write_pair-then-n-lt100000000.ensures))
+    (adds_then c.write_short-then-n-lt100000000.ensures (adds_same (pair_before n) c.write_pair.ensures))
+    (adds_same (pair_after n) c.write_pair-then-n-lt100000000.ensures))
 
 pub write_long-write_decimal-requires : goal.write_long-write_decimal-requires
 write_long-write_decimal-requires t c =

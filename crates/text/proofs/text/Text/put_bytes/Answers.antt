@@ -1,13 +1,12 @@
--- `put_bytes` meets its contract. The loop's invariant: the bytes so far are put.
-use lib.ListN.{length}
-use Prim.Native.Nat.{◌<◌}
-use native.Mathlib.Numerals.{add-one}
-use lib.Seq.{take-suc}
-use Rattle.text.proofs.Added.{adds_then}
+-- `put_bytes` meets its contract where there is room.
+use native.Mathlib.Omega.{arith}
+use mathlib.Core.Path.{refl}
+use lib.Seq.{length-sets}
+use Rattle.text.proofs.Runs.{put_here, part_set}
 use Rattle.text.proofs.text.Text.put_bytes.Goals as goal
 
-pub loop-b-preserved : goal.loop-b-preserved
-loop-b-preserved c =
-    let s = c.args.s.now in
-    let h : c.loop-b.b-index < length s = c.loop-b-test.true in
-    rw (add-one, take-suc s c.loop-b.b-index 0) (adds_then c.loop-b.invariant c.put_byte.ensures)
+pub returns-then-has_room : goal.returns-then-has_room
+returns-then-has_room c =
+    let t = c.args.self.now in
+    let e = part_set t.out.now c.args.s.now _ t.at _ c.copy_from_slice.ensures.after (omega arith) (omega arith) in
+    record { put = put_here (omega arith) (omega arith) e (omega arith); lent = refl; name = refl; length = rw (e, length-sets) }

@@ -1,12 +1,18 @@
--- `put_hex_word` meets its contract.
+-- `put_hex_word` meets its contract: past the buffer's end, and before it.
 use Rattle.text.specs.Text.{hex_text}
-use Rattle.text.proofs.Added.{adds_then}
+use Rattle.text.proofs.Runs.{length_hex}
 use Rattle.text.proofs.text.Text.put_hex_word.Goals as goal
 
-pub returns : goal.returns
+pub returns-then-is_past : goal.returns-then-is_past
+returns-then-is_past c = c.skip.ensures (hex_text c.args.w) (length_hex c.args.w)
+
+pub returns-else-is_past : goal.returns-else-is_past
 unfolding hex_text
-returns c =
-    rw (← c.hex_digit.ensures, ← c.hex_digit-2.ensures, ← c.hex_digit-3.ensures, ← c.hex_digit-4.ensures)
-    (adds_then
-    (adds_then (adds_then c.put_byte.ensures c.put_byte-2.ensures) c.put_byte-3.ensures)
-    c.put_byte-4.ensures)
+returns-else-is_past c =
+    rw (
+      ← c.hex_digit.ensures,
+      ← c.hex_digit-else-is_past.ensures,
+      ← c.hex_digit-else-is_past-2.ensures,
+      ← c.hex_digit-else-is_past-3.ensures,
+    )
+    c.put_bytes.ensures
