@@ -1,13 +1,15 @@
 -- Words that are zero: those after a record's count, and those of the zero value.
-use Prim.Native.Nat.{ℕ, zero, suc, ◌+◌, ◌-◌, ◌<◌, ◌≤◌}
+use Prim.Native.Nat.{ℕ, zero, suc, ◌+◌, ◌-◌, ◌<◌, ◌≤◌, max}
+use native.Mathlib.Numerals.{add-one}
 use native.Mathlib.Omega.{arith}
-use mathlib.Core.Path.{◌≡◌, refl, sym}
+use mathlib.Core.Path.{◌≡◌, refl, sym, ◌∙◌}
 use mathlib.Core.Logic.{◌⊎◌, inl, inr, ⊎_elim}
-use mathlib.Core.Bool.{Bool, true, false, ◌||◌, and_comm}
+use mathlib.Core.Bool.{Bool, true, false, ◌&&◌, ◌||◌, and_comm}
 use mathlib.Core.List.{List}
 use lib.ListN.{get_or, length, drop, replicate}
 use lib.Dec.{ltb, eqb}
-use borrow.Author.Tests.{lt-ltb}
+use borrow.Author.Tests.{lt-ltb, le-ltb}
+use Rattle.words.proofs.Basics.{eq_or_ne}
 use Rattle.std.specs.Bool.{Decides, MatchBool}
 use Rattle.std.specs.List.{AllWithin, HoldsAt}
 use Rattle.std.proofs.lemmas.Bool.{cases_lt, false_from_ne_true}
@@ -21,6 +23,21 @@ pub lasts_zero_none : (words : List ℕ) (count n : ℕ) → n ≤ count → las
 unfolding lasts_zero
 lasts_zero_none words count zero h = refl
 lasts_zero_none words count (suc n) h = rw (lasts_zero_none words count n (omega arith), lt-ltb n count (omega arith))
+
+pub lasts_zero_more :
+    (words : List ℕ) (count n : ℕ) → count ≤ n →
+    lasts_zero words count (n + 1) ≡ (lasts_zero words count n && eqb (get_or words n 0) 0)
+unfolding lasts_zero
+lasts_zero_more words count n h = rw (add-one, le-ltb n count h)
+
+-- a count past the last word leaves nothing to test
+pub lasts_zero_all :
+    (words : List ℕ) (count n : ℕ) → 32 ≤ n → n ≤ max count 32 → lasts_zero words count n ≡ lasts_zero words count 32
+lasts_zero_all words count n h m =
+    ⊎_elim
+    (λ e. rw e)
+    (λ ne. lasts_zero_none words count n (omega arith) ∙ sym (lasts_zero_none words count 32 (omega arith)))
+    (eq_or_ne n 32)
 
 -- each of the others is zero
 pub lasts_zero_tells :
