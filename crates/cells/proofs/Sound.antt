@@ -2,10 +2,12 @@
 use Rattle.std.proofs.Common.{rules}
 use Prim.Native.Nat.{ℕ, ◌+◌, ◌%◌, ◌^◌, ◌≤◌, ◌<◌}
 use native.Mathlib.Omega.{arith}
-use mathlib.Core.Path.{◌≡◌}
+use mathlib.Core.Path.{◌≡◌, refl}
 use mathlib.Core.Bool.{true, false}
 use lib.Pow.{pow_mono}
-use Rattle.cells.specs.declared.cell.Scheme.TheVariants.{Double, Circular}
+use borrow.Author.Tests.{eqb-true, eq-eqb}
+use Rattle.cells.specs.declared.cell.Scheme.{Scheme}
+use Rattle.cells.specs.declared.cell.Scheme.TheVariants.{Single, Double, Circular}
 use Rattle.cells.specs.declared.cell.Cell.{Cell}
 use Rattle.windows.specs.declared.window.Window.{Window}
 use Rattle.windows.specs.Window.{aligned, place_of, meets, meets_fixed, windows_meet}
@@ -18,6 +20,25 @@ use Rattle.cells.proofs.Sizes.{Sized, window_nonempty}
 pub record OffFixed (w : Window) : Type 0 where
   pub tables : meets w.start w.size 0x100 0x148 ≡ false
   pub illegal : meets w.start w.size 0x300 0x100 ≡ false
+
+pub fixed_off : (w : Window) → meets_fixed w ≡ false → OffFixed w
+unfolding meets_fixed
+fixed_off w e = search rules
+
+pub off_fixed : (w : Window) → OffFixed w → meets_fixed w ≡ false
+unfolding meets_fixed
+off_fixed w f = search rules
+
+-- "a double pointer is a multiple of 32"
+pub double_multiple : (s : Scheme) (p : ℕ) → double_fits s p ≡ true → s ≡ Double → p % 32 ≡ 0
+unfolding double_fits
+double_multiple s p h e = eqb-true (p % 32) 0 (rw e at h)
+
+pub multiple_double : (s : Scheme) (p : ℕ) → (s ≡ Double → p % 32 ≡ 0) → double_fits s p ≡ true
+unfolding double_fits
+multiple_double Single p h = refl
+multiple_double Double p h = eq-eqb (p % 32) 0 (h refl)
+multiple_double (Circular n) p h = refl
 
 -- the sentence "A cell is sound if ..", fact by fact; `block` is the stack's window
 pub record CellSound (words : ℕ) (block : Window) (c : Cell) : Type 0 where

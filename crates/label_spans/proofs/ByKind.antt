@@ -13,13 +13,32 @@ use Rattle.std.proofs.lemmas.Slice.{take-put_mid}
 use Rattle.words.specs.Fill.{fill}
 use Rattle.words.proofs.Basics.{lt_or_ge}
 use Rattle.words.proofs.Fill.{length_fill, fill_at}
+use Rattle.words.specs.declared.settings.Settings.{Settings}
+use Rattle.memory.specs.declared.kind.Kind.{Kind}
+use Rattle.memory.specs.Kind.{cell_number}
 use Rattle.memory.proofs.Numbers.{number_below}
+use Rattle.cells.specs.Cell.{cell_at}
+use Rattle.area.specs.Area.{cell_numbered}
 use Rattle.area.proofs.Listed.{numbered_cell}
 use Rattle.label_spans.specs.declared.span.Span.{Span}
 use Rattle.label_spans.specs.Span.{no_span, span_at, starts_of, ends_of}
 
 -- what the code needs of a number that it makes of a kind and a subaddress
 pub ruleset kind_numbers = (number_below, numbered_cell)
+
+-- the numbers of a kind's cells follow on that of its first
+pub number_on : (kind : Kind) (sub : ℕ) → cell_number kind sub ≡ cell_number kind 0 + sub
+unfolding cell_number
+number_on kind sub = omega arith
+
+pub number_on_below : (kind : Kind) (sub : ℕ) → sub < 32 → cell_number kind 0 + sub < 96
+number_on_below kind sub h = rw (← (number_on kind sub)) (number_below kind sub h)
+
+-- and a cell of that number is the kind's
+pub cell_by_kind :
+    (ram : List ℕ) (s : Settings) (kind : Kind) (sub : ℕ) → sub < 32 →
+    cell_numbered ram s (cell_number kind sub) ≡ cell_at ram s.area kind sub
+cell_by_kind = numbered_cell
 
 -- ---- the spans of all cells, from those of three kinds
 

@@ -1,6 +1,6 @@
 -- Bytes tested for zero in parts: a part's bytes are those of the whole, and parts that cover a stretch stand for all of
 -- it.
-use Prim.Native.Nat.{ℕ, zero, suc, ◌+◌, ◌-◌, ◌*◌, ◌/◌, ◌%◌, ◌<◌, ◌≤◌}
+use Prim.Native.Nat.{ℕ, zero, suc, ◌+◌, ◌-◌, ◌*◌, ◌/◌, ◌%◌, ◌<◌, ◌≤◌, min}
 use native.Mathlib.Nat.{zero-add}
 use native.Mathlib.Numerals.{add-one}
 use native.Mathlib.Omega.{arith}
@@ -8,7 +8,7 @@ use mathlib.Core.Path.{◌≡◌, refl, sym, ◌∙◌}
 use mathlib.Core.Logic.{⊎_elim}
 use mathlib.Core.Bool.{Bool, true, false, ◌&&◌}
 use mathlib.Core.List.{List}
-use lib.ListN.{length, get_or, take, drop}
+use lib.ListN.{length, get_or, take, drop, get_or-eq_default}
 use lib.Seq.{get_or-take, get_or-drop, length-take-le, take_all}
 use lib.Dec.{eqb}
 use Rattle.std.specs.List.{fold}
@@ -56,6 +56,27 @@ part_zero s from n m e h =
     rw (e, all_zero (take n (drop from s)), long)
     (zero_same (take n (drop from s)) s 0 from n
     (λ k l. rw (zero-add k) (get_or-take n (drop from s) k 0 l ∙ get_or-drop from s k 0)))
+
+-- bytes past the end are zero, so a test may stop where the list does
+pub zero_inside :
+    (s : List ℕ) (from n start m : ℕ) → start ≡ min from (length s) → m ≡ min n (length s - start) →
+    are_zero s start m ≡ are_zero s from n
+zero_inside s from n start m e f =
+    same_truth (are_zero s start m) (are_zero s from n)
+    (λ z.
+    are_zero_of s from n
+    (λ k l.
+    ⊎_elim
+    (λ inside.
+    let g : from ≡ start = omega arith in
+    rw g (are_zero_at s start m k z (omega arith)))
+    (λ past. get_or-eq_default s 0 {n = from + k} past)
+    (lt_or_ge (from + k) (length s))))
+    (λ z.
+    are_zero_of s start m
+    (λ k l.
+    let g : start ≡ from = omega arith in
+    rw g (are_zero_at s from n k z (omega arith))))
 
 -- two parts that cover a stretch
 zero_cover :

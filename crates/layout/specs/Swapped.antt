@@ -1,4 +1,5 @@
--- For the code alone: words with their two bytes swapped, a step on the way of reader and writer.
+-- For the code alone: words with their two bytes swapped. No code goes by them any more; the laws of `proofs/Swapped.antt`
+-- speak of them.
 use Rattle.std.specs.Prelude.{ℕ, ◌+◌, ◌*◌, ◌/◌, ◌%◌, List, get_or}
 use Rattle.words.specs.Fill.{fill}
 

@@ -46,13 +46,14 @@ fn value_in(s: &[u8; 80]) -> Record
     }
 }
 
-// Whether the `n` bytes from `from` on are zero. With `&` there is no branch: the compiler tests as many bytes at a time
-// as a register holds.
+// Whether the `n` bytes from `from` on are zero; those past the end are. With `&` there is no branch: the compiler tests as
+// many bytes at a time as a register holds.
 pub fn are_zero(s: &[u8], from: usize, n: usize) -> bool
-    requires { from + n ≤ length s.now }
     ensures { result ≡ are_zero s.now from n }
 {
-    s[from..from + n]
+    let start = from.min(s.len());
+    let end = start + n.min(s.len() - start);
+    s[start..end]
         .iter()
         .fold(true, |zero, byte| zero & (*byte == 0))
 }

@@ -13,13 +13,19 @@ pub struct Written {
     pub bytes: [u8; 80],
 }
 
-// Puts a word in the two bytes from `at` on, high byte first.
+// Puts a word in the two bytes from `at` on, high byte first; a byte past the end is not put.
 #[tactic(auto, unfolding(crate::specs::Fields::put_number))]
 pub fn put_word(bytes: &mut [u8], at: usize, word: u16)
-    requires { at + 1 < length bytes.old }
     ensures { bytes.new ≡ put_number bytes.old at 2 word }
 {
-    bytes[at..at + 2].copy_from_slice(&word.to_be_bytes());
+    let pair = word.to_be_bytes();
+    if at < bytes.len() {
+        if at + 1 < bytes.len() {
+            bytes[at..at + 2].copy_from_slice(&pair);
+        } else {
+            bytes[at] = pair[0];
+        }
+    }
 }
 
 #[tactic(auto, unfolding(crate::specs::Writing::header_of, crate::specs::Writing::header_fields, crate::specs::Fields::put_fields, crate::specs::Fields::put_number))]

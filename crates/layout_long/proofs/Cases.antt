@@ -12,6 +12,7 @@ use borrow.Author.Tests.{eqb-true, eq-eqb, ne_eqb}
 use Rattle.records.specs.Value.{keeps_layout}
 use Rattle.words.specs.Refusal.{first_of}
 use Rattle.words.proofs.Basics.{yes_or_no, eq_or_ne}
+use Rattle.layout.specs.declared.reader.Reading.{Reading}
 use Rattle.layout.specs.declared.writer.Written.{Written}
 use Rattle.layout.specs.Fields.{put_fields}
 use Rattle.layout.specs.Layout.{word_at, value_in, breaks_layout, not_read, read_record}
@@ -117,6 +118,10 @@ long_taken s z =
     (λ other.
     let four : (read_long s).number ≡ 4 = ap (λ (r : LongReading). r.number) (long_length_lem s other) in absurd (omega arith))
     (eq_or_ne (length s) 96)
+
+-- an old part that is heard is one of 96 bytes
+pub heard_long_lem : (s : List ℕ) (p : Reading) → p ≡ read_old s → p.number ≡ 0 → length s ≡ 96
+heard_long_lem s p e z = (long_taken s (sym (ap (λ (r : Reading). r.number) e ∙ old_number s) ∙ z)).long
 
 pub long_unheard : (s : List ℕ) → ((read_old s).number ≡ 0 → ⊥) → read_long s ≡ not_read_long (read_old s).number
 unfolding read_long

@@ -10,10 +10,23 @@ use Rattle.windows.specs.declared.window.Window.{Window}
 use Rattle.windows.specs.Window.{place_of, meets, windows_meet}
 use Rattle.windows.proofs.Wrap.{place_from, place_below}
 
+-- the n words from a and the m words from b are apart: one ends before the other begins
+abbrev pub Apart : ℕ → ℕ → ℕ → ℕ → Type 0
+Apart a n b m = (a + n ≤ b) ⊎ (b + m ≤ a)
+
 module _ (a n b m : ℕ) where
   pub meets_swap : meets a n b m ≡ meets b m a n
   unfolding meets
   meets_swap = search rules
+
+  -- the test as an order of the ends, both ways
+  pub meets_no : meets a n b m ≡ false → Apart a n b m
+  unfolding meets
+  meets_no e = search rules
+
+  pub apart_no : Apart a n b m → meets a n b m ≡ false
+  unfolding meets
+  apart_no h = search rules
 
   -- where the test says no, no address lies in both
   pub nothing_shared :

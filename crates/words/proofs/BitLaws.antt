@@ -1,5 +1,6 @@
 -- A yes or no as a bit is at most 1, and n bits make a number below 2 ^ n.
 use Prim.Native.Nat.{ℕ, zero, suc, ◌+◌, ◌*◌, ◌^◌, ◌≤◌, ◌<◌}
+use native.Mathlib.Numerals.{add-one}
 use native.Mathlib.Omega.{arith}
 use mathlib.Core.Path.{◌≡◌}
 use mathlib.Core.Logic.{⊎_elim}
@@ -13,6 +14,10 @@ use Rattle.words.specs.Bits.{bit_of, bits_of}
 pub bit_small : (b : Bool) → bit_of b ≤ 1
 bit_small true = omega arith
 bit_small false = omega arith
+
+pub bits_more : (bits : List Bool) (n : ℕ) → bits_of bits (n + 1) ≡ 2 * bits_of bits n + bit_of (get_or bits n false)
+unfolding bits_of
+bits_more bits n = rw add-one
 
 pub bits_below : (bits : List Bool) (n : ℕ) → bits_of bits n < 2 ^ n
 unfolding bits_of

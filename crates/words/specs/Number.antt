@@ -1,5 +1,5 @@
 -- The numbers that refuse, by name: the table "Numbers that refuse", in its order, and then those of later requests.
--- `src/number.rt` has the same names for the code.
+-- `src/number.rt` has the same names for the code, but for 15, which `number.rt` of `control_words` has.
 use Rattle.std.specs.Prelude.{ℕ}
 
 -- "RAM is not 4,096 words"; and since the 64K card, "1 for any other length" than these and 65,536
