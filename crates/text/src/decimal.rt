@@ -21,7 +21,7 @@ pub(crate) fn places(n: u64) -> usize
 }
 
 impl Text<'_> {
-    // The last two digits of n.
+    // The last two digits of n, each in a store of its own, which is faster than to copy them from an array.
     #[inline(always)]
     #[tactic(auto, unfolding(crate::specs::Text::digits))]
     fn write_pair(&mut self, n: u16)
@@ -63,7 +63,7 @@ impl Text<'_> {
         }
     }
 
-    // A number that there is room for.
+    // A number that there is room for. Always within its caller: a line of the trace program takes fewer instructions so.
     #[inline(always)]
     #[cycle(decimal)]
     pub(crate) fn write_decimal(&mut self, n: u64)
