@@ -1,14 +1,13 @@
-// The controller's machine from plain numbers, and a run as plain numbers.
+// The controller's machine from plain numbers, and a run as plain numbers, put from the first to the last.
 ghost use Rattle.std.specs.Prelude.{◌≡◌};
 ghost use Rattle.control.specs.Machine.{refusal_in};
 ghost use Rattle.c_words.specs.Over.{over};
 ghost use Rattle.c_control.specs.Numbers.{last_number, last_from, machine_numbers, machine_from, machine_left, ran_numbers};
 
-use c_words::over::put_over;
 use control::machine::{Machine, end_kind, refusal_in};
 use control::run::Ran;
 use control_words::condition::Outcome;
-use who_tables::table::number_at;
+use who_tables::table::{number_at, put_number};
 
 #[tactic(auto, unfolding(crate::specs::Numbers::last_number))]
 fn last_number(o: Outcome) -> u64
@@ -42,29 +41,29 @@ pub(crate) fn machine_from(xs: &[u64]) -> Machine
     }
 }
 
+// One by one: an array that is put over what is lent is a call of memcpy, which a caller may not have.
 #[tactic(auto, unfolding(crate::specs::Numbers::machine_numbers))]
 fn put_machine(xs: &mut [u64], m: Machine)
     ensures { xs.new ≡ over xs.old (machine_numbers m) }
 {
-    let numbers = [
-        m.pointer as u64,
-        u64::from(m.flags),
-        last_number(m.last),
-        m.depth as u64,
-        m.calls[0] as u64,
-        m.calls[1] as u64,
-        m.calls[2] as u64,
-        m.calls[3] as u64,
-        m.place as u64,
-    ];
-    put_over(xs, 0, &numbers);
+    let calls = m.calls;
+    put_number(xs, 0, m.pointer as u64);
+    put_number(xs, 1, u64::from(m.flags));
+    put_number(xs, 2, last_number(m.last));
+    put_number(xs, 3, m.depth as u64);
+    put_number(xs, 4, calls[0] as u64);
+    put_number(xs, 5, calls[1] as u64);
+    put_number(xs, 6, calls[2] as u64);
+    put_number(xs, 7, calls[3] as u64);
+    put_number(xs, 8, m.place as u64);
 }
 
 #[tactic(auto, unfolding(crate::specs::Numbers::ran_numbers))]
 fn put_ran(xs: &mut [u64], r: Ran)
     ensures { xs.new ≡ over xs.old (ran_numbers r) }
 {
-    put_over(xs, 0, &[u64::from(end_kind(r.end)), r.steps]);
+    put_number(xs, 0, u64::from(end_kind(r.end)));
+    put_number(xs, 1, r.steps);
 }
 
 // A run told in what is lent; the number that refuses is the result, and then the machine keeps its contents.

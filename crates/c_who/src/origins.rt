@@ -8,19 +8,21 @@ ghost use Rattle.c_words.specs.Over.{over};
 ghost use Rattle.c_words.specs.Setup.{settings_from, remembered_words};
 ghost use Rattle.c_who.specs.Origins.{part_words, filling_from, lent_tables_of, tables_in, tables_after};
 
-use c_words::over::put_over;
 use c_words::setup::{put_remembered, remembered_from, settings_from};
+use memory::ram::put;
 use who::values::{Values, values_of};
 use who_origin::origin::Who;
 use who_replay::fill::fill;
 use who_replay::question::ask;
 use who_tables::table::{Filling, entry_at, number_at, put_number};
 
-#[tactic(auto, unfolding(crate::specs::Origins::part_words))]
+#[tactic(auto, using(c_words::proofs::Order::fields_put), unfolding(crate::specs::Origins::part_words))]
 fn put_part(xs: &mut [u16], v: Values)
     ensures { xs.new ≡ over xs.old (part_words v) }
 {
-    put_over(xs, 0, &[v.kind, v.cell, v.place]);
+    put(xs, 2, v.place);
+    put(xs, 1, v.cell);
+    put(xs, 0, v.kind);
 }
 
 // An answer's values put over what is lent; the number that refuses is the result.
