@@ -136,3 +136,17 @@ module _ (s : List ℕ) (count from : ℕ) (b : Bytes s) (start : from + 2 * cou
   -- all 64 bytes keep their limits exactly when the words after the count are zero
   pub within_all : within s limits from 64 ≡ lasts_zero (words_in s) count 32
   within_all = within_words 32 (omega arith)
+
+-- the same of the bytes from 16 on and of the table's rest, wherever that begins
+pub rest_within :
+    (s all rest : List ℕ) (count from n : ℕ) → rest ≡ take n (drop from all) → Bytes s → length s ≡ 80 → all ≡ limits →
+    from + n ≡ length all → length all ≡ 128 → from + 2 * count ≡ 64 →
+    fold within_too true (zip (take 64 (drop 16 s)) (take n (drop from all))) ≡ lasts_zero (words_in s) count 32
+rest_within s all rest count from n e b long same reach many start =
+    let bytes = take 64 (drop 16 s) in
+    let ends = take n (drop from all) in
+    zip_within s limits bytes ends from (λ k l. part_at s 16 64 k l)
+    (λ k l. part_at all from n k (omega arith) ∙ rw same)
+    (part_long s 16 64 (omega arith))
+    (omega (arith, part_long all from n (omega arith)))
+    ∙ within_all s count from b start

@@ -20,4 +20,4 @@ returns c =
     let part = take (start + m - start) (drop start s) in
     fold_from_yields_List {all = part} _ zero_too true _ c.fold.ensures.ran (YieldsList-from_slice part cc) (λ a x b q k. search (rules, tests))
     ∙ part_zero s start m _ (omega arith) (omega arith)
-    ∙ zero_inside s a.from a.n start m c.min-start.ensures c.min.ensures
+    ∙ zero_inside s a.from a.n start m (omega (arith, c.min-start.ensures)) (omega (arith, c.min.ensures))
