@@ -16,7 +16,6 @@ use who_replay::fill::fill;
 use who_replay::question::ask;
 use who_tables::table::{Filling, entry_at, number_at, put_number};
 
-#[tactic(auto, using(c_words::proofs::Order::fields_put), unfolding(crate::specs::Origins::part_words))]
 fn put_part(xs: &mut [u16], v: Values)
     ensures { xs.new ≡ over xs.old (part_words v) }
 {
