@@ -59,15 +59,29 @@ impl Text<'_> {
         self.at = self.at.saturating_add(n);
     }
 
+    // A slice that there is room for.
+    #[inline(always)]
+    fn write_slice(&mut self, s: &[u8])
+        requires { self.old.at + length s.now ≤ length self.old.out.now }
+        ensures { Adds self.old s.now self.new }
+    {
+        let end = self.at + s.len();
+        let out = &mut *self.out;
+        out[self.at..end].copy_from_slice(s);
+        self.at = end;
+    }
+
     // Near the buffer's end: as many of the bytes as there is room for.
     #[cold]
     #[inline(never)]
-    fn put_each(&mut self, s: &[u8])
+    fn put_cut(&mut self, s: &[u8])
+        requires before { self.old.at ≤ length self.old.out.now }
+        requires beyond { length self.old.out.now ≤ self.old.at + length s.now }
         ensures { Adds self.old s.now self.new }
     {
-        for b in s {
-            self.put_byte(*b);
-        }
+        let room = self.out.len() - self.at;
+        self.write_slice(&s[..room]);
+        self.skip(s.len() - room);
     }
 
     pub fn put_bytes(&mut self, s: &[u8])
@@ -76,12 +90,9 @@ impl Text<'_> {
         if self.is_past() {
             self.skip(s.len());
         } else if self.has_room(s.len()) {
-            let end = self.at + s.len();
-            let out = &mut *self.out;
-            out[self.at..end].copy_from_slice(s);
-            self.at = end;
+            self.write_slice(s);
         } else {
-            self.put_each(s);
+            self.put_cut(s);
         }
     }
 
